@@ -1,6 +1,6 @@
 -- The loop over a section's lines, step by step: where it starts, a line that is passed over, a line that is folded, and what it has folded in the end.
 use Rattle.std.specs.Prelude.{ℕ, suc, ◌+◌, ◌<◌, ◌≤◌, Bool, true, false, ◌≡◌, refl, List, [], ◌∷◌, ◌++◌, map, eqb, length, get_or}
-use Rattle.std.proofs.Common.{ap, ◌∙◌, sym, append_assoc, append-nil, length-append, length-take, get_or-take, eq-eqb, ne_eqb, arith}
+use Rattle.std.proofs.Common.{take, ap, ◌∙◌, sym, append_assoc, append-nil, length-append, length-take, eq-eqb, ne_eqb, arith}
 use Rattle.std.proofs.lemmas.List.{map-append, length-map, get_or_at}
 use Rattle.node.specs.Limits.{max_nodes, field_bits}
 use Rattle.node.specs.Ltl.{Formula}
@@ -80,14 +80,14 @@ pub record Ahead (part : ℕ) (ls : List (Part × Formula)) (table out out' : Li
   pub nodes : below field_bits w ≡ size line.1
 
 pub ahead : {part : ℕ} {ls : List (Part × Formula)} {words table out out' : List ℕ} {count at i start : ℕ} {f : Fold}
-    → Lined ls words count table → Passed part ls table out out' at i start f → i < count → Ahead part ls table out out' at i start f (get_or words i 0)
+    → Lined ls words count table → Passed part ls table out out' at i start f → i < count → Ahead part ls table out out' at i start f (get_or (take count words) i 0)
 ahead {part} {ls} {words} {table} {out} {out'} {count} {at} {i} {start} {f} l p h = go p.rest p.split p.stand
   where
-    go : (rest : List (Part × Formula)) → ls ≡ p.done ++ rest → InTable rest table start → Ahead part ls table out out' at i start f (get_or words i 0)
+    go : (rest : List (Part × Formula)) → ls ≡ p.done ++ rest → InTable rest table start → Ahead part ls table out out' at i start f (get_or (take count words) i 0)
     go [] e s = absurd (omega (arith, ap length e ∙ length-append p.done [], l.counted, p.index))
     go (x ∷ rest) e s =
-        let at_i : get_or words i 0 ≡ word x =
-        sym (get_or-take count words i 0 h) ∙ ap (λ (ws : List ℕ). get_or ws i 0) (l.listed ∙ ap (map word) e ∙ map-append word p.done (x ∷ rest))
+        let at_i : get_or (take count words) i 0 ≡ word x =
+        ap (λ (ws : List ℕ). get_or ws i 0) (l.listed ∙ ap (map word) e ∙ map-append word p.done (x ∷ rest))
         ∙ get_or_at (map word p.done) (word x) (map word rest) 0 i (length-map p.done word ∙ p.index) in
         let room = s.0.room in
         record {

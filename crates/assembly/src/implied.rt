@@ -4,7 +4,6 @@ ghost use Rattle.language.specs.DeclaredNames.{Port};
 ghost use Rattle.assembly.specs.Implied.{Bus, Buses, BusReady, Ready, AddsAll, implied_formulas};
 
 use crate::add_line;
-use basics::u16_usize::wide;
 use choices::coverage::leaves_unnamed;
 use choices::{identifiers_end, one_of};
 use language::limits;
@@ -75,15 +74,13 @@ pub fn implied(
         → AddsAll span.part e table.old lines.old table.new lines.new result (implied_formulas ps qs) }
 {
     let mut r = e;
-    let mut j = span.from;
-    while j < span.to {
-        let enumeration = wide(ports.enumerations[j]);
+    for j in span.from..span.to {
+        let enumeration = usize::from(ports.enumerations[j]);
         if enumeration < limits::MAX_TOKENS {
-            let name = wide(ports.order[j]);
+            let name = usize::from(ports.order[j]);
             let first = ports.firsts[name];
             r = imply(span.part, text, work, enumeration, first, r, table, lines);
         }
-        j += 1;
     }
     r
 }

@@ -16,6 +16,7 @@ use writing::{TOO_MANY, cap, join};
 pub mod implied;
 
 // The parts by their numbers.
+// Numbers and no enum: the words of the list of lines hold them, beside a size (specs of crate assembly).
 pub const INITIALLY: u32 = 0;
 
 pub const PRESET: u32 = 1;
@@ -33,6 +34,7 @@ pub fn add_line(part: u32, at: usize, next: usize, lines: &mut [u32], count: usi
     requires { LineRoom part at next lines.old count }
     ensures { Adds part at next lines.old lines.new count result }
 {
+    // A count that goes on where the table is full (head of crate writing).
     if MAX_NODES < next {
         return count;
     }
@@ -57,17 +59,14 @@ fn section(
         end: at,
     };
     let mut start = 0;
-    let mut i = 0;
-    while i < count {
-        let line = lines[i];
-        let size = (line % FIELD_LIMIT) as usize;
-        if line / FIELD_LIMIT == part {
+    for line in &lines[..count] {
+        let size = (*line % FIELD_LIMIT) as usize;
+        if *line / FIELD_LIMIT == part {
             let end = f.end;
             let r = copy_from(table, start, size, end, out);
             f = further(true, f, r, out);
         }
         start += size;
-        i += 1;
     }
     finish(true, f, out)
 }

@@ -1,5 +1,5 @@
 -- A bus against an identifier: by the widths of the identifier's words, and the signals of the bus.
-use Rattle.std.specs.Prelude.{ℕ, zero, suc, ◌+◌, ◌*◌, ◌≤◌, ◌<◌, min, Bool, true, false, List, ◌≡◌, refl, eqb, length, get_or}
+use Rattle.std.specs.Prelude.{ℕ, zero, suc, ◌+◌, ◌*◌, ◌≤◌, ◌<◌, min, Bool, true, false, List, ◌≡◌, refl, eqb, length, get_or, Ok, Err}
 use Rattle.std.proofs.Common.{sym, ap, ◌∙◌, subst, arith}
 use Rattle.node.specs.Limits.{max_nodes}
 use Rattle.node.specs.Operators.{Not}
@@ -7,6 +7,8 @@ use Rattle.node.specs.Kinds.{unary_kind}
 use Rattle.node.specs.Ltl.{Formula, One}
 use Rattle.node.specs.Result.{Result, Done, Refused, ◌>>=◌, guard}
 use Rattle.node.proofs.ResultLaws.{guard-pass, guard-stop, bind_to, bind_refused}
+use Rattle.node.specs.Returned.{refusal}
+use Rattle.machine.specs.declared.Move.TheVariants.{Next}
 use Rattle.writing.specs.Writing.{Wrote, Caps}
 use Rattle.language.specs.Limits.{max_names, max_tokens, max_signals}
 use Rattle.language.specs.Tokens.{Token}
@@ -37,7 +39,6 @@ use Rattle.machine.specs.States.{Turned, Top, ToppedToWrite, TakesToWrite}
 use Rattle.machine.specs.TakeLaws.{refuses, note_under}
 use Rattle.machine.specs.Moves.{wrote, popped}
 use Rattle.machine.specs.declared.Machine.{Machine}
-use Rattle.machine.specs.declared.Move.TheVariants.{Next, Refused as Refuses}
 use Rattle.machine.specs.FactLaws.{noted_width, noted_identifier}
 use Rattle.atom_steps.specs.WriteLaws.{writes-after}
 use Rattle.atom_steps.specs.NoteLaws.{words-behind, signals-here}
@@ -121,11 +122,11 @@ module _ {s : Source} {mem out : List ℕ} {m : Machine} {place b i : ℕ} (q : 
           let e : comparison op ≡ z.operator = ap comparison (eo ∙ z.code) ∙ comparison_of z.operator in
           z.same ∙ ap (λ (c : Comparison). against R.ports c sized z.words >>= nodes) (sym e)
 
-      stops : {number at : ℕ} → against R.ports (comparison op) sized faced.words ≡ Refused number at → Turned R mem mem out out m x o (Refuses number at)
+      stops : {number at : ℕ} → against R.ports (comparison op) sized faced.words ≡ Refused number at → Turned R mem mem out out m x o (Err (refusal number at))
       stops {number} {at} e = refuses faced.top (as-compared ∙ bind_refused _ number at nodes e)
 
     -- other comparisons than == and !=
-    pub against-misfits : comparison_code Unequal < op → TakesToWrite s mem mem out out m (Refuses 9 0)
+    pub against-misfits : comparison_code Unequal < op → TakesToWrite s mem mem out out m (Err (refusal 9 0))
     against-misfits l = record { turns = λ R x o t. stops t (order-misfit op l R.ports (sized t) (faced t).words) }
 
     module _ {width first entry end : ℕ} (d : Reads s mem b i width first entry end) where
@@ -146,7 +147,7 @@ module _ {s : Source} {mem out : List ℕ} {m : Machine} {place b i : ℕ} (q : 
         written g = let z = faced t in g.wrote R.ports (sized t).name z.words stored (λ l. d.first-is ∙ ((signals-here z.top l).bus b z.width z.bus z.bus_means).0)
 
         writes : {v : Bool} → op ≤ comparison_code Unequal → WidthsAre s.work (entry + 1) end width v → v ≡ true → {out' : List ℕ} {r n : ℕ} → Wrote (chosen op (one_of R.ports (sized t).name (faced t).words)) out out' m.nodes r
-            → n ≡ min r (suc max_nodes) → Turned R mem mem out out' m x o (Next (wrote (popped m) n))
+            → n ≡ min r (suc max_nodes) → Turned R mem mem out out' m x o (Ok (Next (wrote (popped m) n)))
         writes l w e {out'} g en =
             let z = faced t in
             let f : Formula = chosen op (one_of R.ports (sized t).name z.words) in
@@ -154,20 +155,20 @@ module _ {s : Source} {mem out : List ℕ} {m : Machine} {place b i : ℕ} (q : 
             (as-compared t ∙ bind_to _ f nodes (by_width op l R.ports (sized t) z.words ∙ guard-pass 13 place (Done f) (sym (right-width w) ∙ e))) g en
 
       module _ (l : op ≤ comparison_code Unequal) {v : Bool} (w : WidthsAre s.work (entry + 1) end width v) where
-        pub against-width : v ≡ false → TakesToWrite s mem mem out out m (Refuses 13 place)
+        pub against-width : v ≡ false → TakesToWrite s mem mem out out m (Err (refusal 13 place))
         against-width e = record {
           turns = λ R x o t. stops t (by_width op l R.ports (sized t) (faced t).words ∙ guard-stop 13 place _ (sym (right-width t w) ∙ e));
         }
 
         module _ (e : v ≡ true) {out' : List ℕ} {r : ℕ} (g : OneOf s.text s.work (entry + 1) end first out out' m.nodes r) where
-          pub against-equal : op ≡ comparison_code Equal → {n : ℕ} → n ≡ min r (suc max_nodes) → TakesToWrite s mem mem out out' m (Next (wrote (popped m) n))
+          pub against-equal : op ≡ comparison_code Equal → {n : ℕ} → n ≡ min r (suc max_nodes) → TakesToWrite s mem mem out out' m (Ok (Next (wrote (popped m) n)))
           against-equal eo en = record {
             turns = λ R x o t.
                 let f = one_of R.ports (name_at R.W b) (faced t).words in
                 writes t l w e (subst (λ (k : ℕ). Wrote (chosen k f) out out' m.nodes r) (sym eo) (written t g)) en;
           }
 
-          pub against-unequal : (op ≡ comparison_code Equal → ⊥) → {out'' : List ℕ} {u n : ℕ} → Caps (unary_kind Not) out' out'' r u → n ≡ min u (suc max_nodes) → TakesToWrite s mem mem out out'' m (Next (wrote (popped m) n))
+          pub against-unequal : (op ≡ comparison_code Equal → ⊥) → {out'' : List ℕ} {u n : ℕ} → Caps (unary_kind Not) out' out'' r u → n ≡ min u (suc max_nodes) → TakesToWrite s mem mem out out'' m (Ok (Next (wrote (popped m) n)))
           against-unequal ne {out''} {u} c en = record {
             turns = λ R x o t.
                 let f = one_of R.ports (name_at R.W b) (faced t).words in

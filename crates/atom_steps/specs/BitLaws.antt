@@ -1,11 +1,13 @@
 -- A bit of a bus: its index, then its name.
-use Rattle.std.specs.Prelude.{ℕ, zero, suc, ◌+◌, ◌-◌, ◌*◌, ◌≤◌, ◌<◌, ◌^◌, min, List, [], ◌≡◌, refl, length, get_or}
+use Rattle.std.specs.Prelude.{ℕ, zero, suc, ◌+◌, ◌-◌, ◌*◌, ◌≤◌, ◌<◌, ◌^◌, min, List, [], ◌≡◌, refl, length, get_or, Ok, Err}
 use Rattle.std.proofs.Math.Option.{some}
 use Rattle.std.proofs.Common.{sym, ap, ◌∙◌, subst, arith, add-zero}
 use Rattle.node.specs.Limits.{max_nodes, field_limit}
 use Rattle.node.specs.Ltl.{Formula}
 use Rattle.node.specs.Result.{Result, Done, Refused, ◌>>=◌}
 use Rattle.node.proofs.ResultLaws.{bind_at, bind_to, bind_refused}
+use Rattle.node.specs.Returned.{refusal}
+use Rattle.machine.specs.declared.Move.TheVariants.{Next}
 use Rattle.writing.specs.Writing.{Wrote}
 use Rattle.language.specs.Limits.{max_names}
 use Rattle.language.specs.Tokens.{Token}
@@ -23,7 +25,6 @@ use Rattle.name_values.proofs.UsedLaws.{used-value}
 use Rattle.name_values.specs.Sorts as Sort
 use Rattle.operands.specs.Entries.{kind_at, place_at}
 use Rattle.operands.specs.ClassLaws.{place_is}
-use Rattle.operands.specs.Operands.{below}
 use Rattle.operands.specs.Working.{Source}
 use Rattle.operands.specs.Makings.{making_of}
 use Rattle.machine.specs.Fields.{entry_field, note_number, note_address}
@@ -46,7 +47,6 @@ use Rattle.machine.specs.FlatLaws.{flat-top, flat_scope, flat-depth, flat-laid, 
 use Rattle.machine.specs.BindLaws.{take-number, then_nodes}
 use Rattle.machine.specs.OperandLaws.{topped_to_write-entry, operand_as, one-operand}
 use Rattle.machine.specs.declared.Machine.{Machine}
-use Rattle.machine.specs.declared.Move.TheVariants.{Next, Refused as Refuses}
 use Rattle.machine.specs.Entering.{Expands, Waiting}
 use Rattle.machine.specs.EnteringLaws.{works-formula, operand_making}
 use Rattle.value_steps.specs.NameLaws.{note_first}
@@ -143,14 +143,14 @@ module _ {s : Source} {mem out : List ℕ} {m : Machine} (w : Waiting mem m Phas
           ap (apply (Indexed c t)) index.same ∙ bind_at m.value (λ i. c.values t >>= bus >>= bit_at c.ports i >>= nodes)
           ∙ ap (λ (ps : List Port). c.values t >>= bus >>= bit_at ps m.value >>= nodes) h.at.waits.ports
 
-      stops : {number place : ℕ} → (c.values t >>= bus) ≡ Refused number place → Turned R mem mem out out m x o (Refuses number place)
+      stops : {number place : ℕ} → (c.values t >>= bus) ≡ Refused number place → Turned R mem mem out out m x o (Err (refusal number place))
       stops {number} {place} q = refuses h (looks-up ∙ bind_refused _ number place nodes (bind_refused _ number place _ q))
 
       stands_for_lem : {v : Value} → c.values t ≡ Done v → (c.values t >>= bus) ≡ bus v
       stands_for_lem {v} q = bind_to _ v bus q
 
     -- a big operator's name stands for a number
-    pub element-misfits : max_names ≤ r → TakesToWrite s mem mem out out m (Refuses 9 0)
+    pub element-misfits : max_names ≤ r → TakesToWrite s mem mem out out m (Err (refusal 9 0))
     element-misfits l = record {
       turns = λ R x o t.
           let v = by_phase t.frame Phase.indexed (top-phase t ∙ w.phase) in
@@ -171,7 +171,7 @@ module _ {s : Source} {mem out : List ℕ} {m : Machine} (w : Waiting mem m Phas
         place_of : place_at s.work k ≡ t.at
         place_of = ap (place_at s.work) (same-entry h) ∙ h.at.waits.place
 
-      pub nothing-refuses : sort ≡ Sort.nothing → TakesToWrite s mem mem out out m (Refuses 6 0)
+      pub nothing-refuses : sort ≡ Sort.nothing → TakesToWrite s mem mem out out m (Err (refusal 6 0))
       nothing-refuses z = record {
         turns = λ R x o t.
             let v = by_phase t.frame Phase.indexed (top-phase t ∙ w.phase) in
@@ -180,7 +180,7 @@ module _ {s : Source} {mem out : List ℕ} {m : Machine} (w : Waiting mem m Phas
       }
 
       -- a number, a single signal, a set, an identifier
-      pub others-misfit : (sort ≡ Sort.body → ⊥) → (sort ≡ Sort.nothing → ⊥) → (sort ≡ Sort.bus → ⊥) → TakesToWrite s mem mem out out m (Refuses 9 0)
+      pub others-misfit : (sort ≡ Sort.body → ⊥) → (sort ≡ Sort.nothing → ⊥) → (sort ≡ Sort.bus → ⊥) → TakesToWrite s mem mem out out m (Err (refusal 9 0))
       others-misfit a b d = record {
         turns = λ R x o t.
             let v = by_phase t.frame Phase.indexed (top-phase t ∙ w.phase) in
@@ -200,7 +200,7 @@ module _ {s : Source} {mem out : List ℕ} {m : Machine} (w : Waiting mem m Phas
 
       module _ (z : sort ≡ Sort.bus) where
         -- not yet sized, or too narrow
-        pub bit-refuses : n ≤ m.value → {p : ℕ} → p ≡ place_at s.work k → TakesToWrite s mem mem out out m (Refuses 13 p)
+        pub bit-refuses : n ≤ m.value → {p : ℕ} → p ≡ place_at s.work k → TakesToWrite s mem mem out out m (Err (refusal 13 p))
         bit-refuses d {p} ep = record {
           turns = λ R x o t.
               let v = by_phase t.frame Phase.indexed (top-phase t ∙ w.phase) in
@@ -221,7 +221,7 @@ module _ {s : Source} {mem out : List ℕ} {m : Machine} (w : Waiting mem m Phas
               let h = top_as t.top v.2 in
               signal-fits h r m.value n l (((fact h).bus z).sized (omega arith)) d
 
-          pub bit-steps : {out' : List ℕ} {i q : ℕ} → Signalled (note_at mem r note_address) m.value out out' m.nodes i → q ≡ min i (suc max_nodes) → TakesToWrite s mem mem out out' m (Next (wrote (popped m) q))
+          pub bit-steps : {out' : List ℕ} {i q : ℕ} → Signalled (note_at mem r note_address) m.value out out' m.nodes i → q ≡ min i (suc max_nodes) → TakesToWrite s mem mem out out' m (Ok (Next (wrote (popped m) q)))
           bit-steps {out'} {i} g eq = record {
             turns = λ R x o t.
                 let v = by_phase t.frame Phase.indexed (top-phase t ∙ w.phase) in
@@ -238,7 +238,7 @@ module _ {s : Source} {mem out : List ℕ} {m : Machine} (w : Waiting mem m Phas
 
       -- a definition: its body is worked out, and a frame waits to take the bit
       pub body-steps : sort ≡ Sort.body → {mem' : List ℕ} {scope i : ℕ} → scope ≡ m.scope → i ≡ m.value
-          → Framed mem mem' m.frames (record { phase = Phase.bit_of; entry = k; base = m.top; at = i; count = 0; value = scope; other = 0 }) → TakesToWrite s mem mem' out out m (Next (within-body m n))
+          → Framed mem mem' m.frames (record { phase = Phase.bit_of; entry = k; base = m.top; at = i; count = 0; value = scope; other = 0 }) → TakesToWrite s mem mem' out out m (Ok (Next (within-body m n)))
       body-steps z {mem'} {scope} {i} ec ei f = record {
         turns = λ R x o t.
             let v = by_phase t.frame Phase.indexed (top-phase t ∙ w.phase) in

@@ -1,10 +1,12 @@
 -- A bit of what the body of a definition has come to.
-use Rattle.std.specs.Prelude.{ℕ, suc, ◌+◌, ◌≤◌, ◌<◌, min, List, ◌++◌, ◌≡◌, refl, get_or}
+use Rattle.std.specs.Prelude.{ℕ, suc, ◌+◌, ◌≤◌, ◌<◌, min, List, ◌++◌, ◌≡◌, refl, get_or, Ok, Err}
 use Rattle.std.proofs.Common.{ap, ◌∙◌, subst, arith, add-zero}
 use Rattle.node.specs.Limits.{max_nodes, field_limit}
 use Rattle.node.specs.Ltl.{Formula}
 use Rattle.node.specs.Result.{Result, Refused, ◌>>=◌}
 use Rattle.node.proofs.ResultLaws.{bind_at, bind_to, bind_refused}
+use Rattle.node.specs.Returned.{refusal}
+use Rattle.machine.specs.declared.Move.TheVariants.{Next}
 use Rattle.language.specs.Limits.{max_names}
 use Rattle.language.specs.DeclaredNames.{Port}
 use Rattle.language.specs.Values.{Sized, misfit, bus}
@@ -26,7 +28,6 @@ use Rattle.machine.specs.States.{Come, written, Turned, TopOf, ToppedToWrite, Ta
 use Rattle.machine.specs.FrameViews.{by_phase}
 use Rattle.machine.specs.TakeLaws.{at-word, value-word, refuses, pops, top-phase, top_as}
 use Rattle.machine.specs.declared.Machine.{Machine}
-use Rattle.machine.specs.declared.Move.TheVariants.{Next, Refused as Refuses}
 use Rattle.machine.specs.Entering.{Waiting}
 use Rattle.machine.specs.TellLaws.{IsBus, tells-bus, tells_unsized, tells_no_bus, IsValue, came-value}
 use Rattle.machine.specs.FactLaws.{noted_width}
@@ -47,10 +48,10 @@ module _ {s : Source} {mem out : List ℕ} {m : Machine} (w : Waiting mem m Phas
     takes : apply (BitOf c i) h.came ≡ (as_value h.came >>= bus >>= bit_at R.ports i >>= nodes)
     takes = ap (λ (ps : List Port). as_value h.came >>= bus >>= bit_at ps i >>= nodes) h.at.waits
 
-    stops : {number place : ℕ} → (as_value h.came >>= bus) ≡ Refused number place → Turned R mem mem out out m x o (Refuses number place)
+    stops : {number place : ℕ} → (as_value h.came >>= bus) ≡ Refused number place → Turned R mem mem out out m x o (Err (refusal number place))
     stops {number} {place} q = refuses h (takes ∙ bind_refused _ number place nodes (bind_refused _ number place _ q))
 
-  pub bit-misfits : (m.mode ≡ is_unsized → ⊥) → (m.mode ≡ is_bus → ⊥) → TakesToWrite s mem mem out out m (Refuses 9 0)
+  pub bit-misfits : (m.mode ≡ is_unsized → ⊥) → (m.mode ≡ is_bus → ⊥) → TakesToWrite s mem mem out out m (Err (refusal 9 0))
   bit-misfits a b = record {
     turns = λ R x o t.
         let v = by_phase t.frame Phase.bit_of (top-phase t ∙ w.phase) in
@@ -58,7 +59,7 @@ module _ {s : Source} {mem out : List ℕ} {m : Machine} (w : Waiting mem m Phas
         stops h (no_bus R o mem m h.came h.come a b);
   }
 
-  pub bit_unsized : m.mode ≡ is_unsized → TakesToWrite s mem mem out out m (Refuses 13 m.value)
+  pub bit_unsized : m.mode ≡ is_unsized → TakesToWrite s mem mem out out m (Err (refusal 13 m.value))
   bit_unsized e = record {
     turns = λ R x o t.
         let v = by_phase t.frame Phase.bit_of (top-phase t ∙ w.phase) in
@@ -97,7 +98,7 @@ module _ {s : Source} {mem out : List ℕ} {m : Machine} (w : Waiting mem m Phas
         (is-bus (top_as t.top v.2)).declared
 
     module _ {j n : ℕ} (ej : j ≡ get_or mem (m.frames + at_field) 0) (en : n ≡ note_at mem m.from note_number) where
-      pub bit-refuses : n ≤ j → TakesToWrite s mem mem out out m (Refuses 13 m.value)
+      pub bit-refuses : n ≤ j → TakesToWrite s mem mem out out m (Err (refusal 13 m.value))
       bit-refuses l = record {
         turns = λ R x o t.
             let v = by_phase t.frame Phase.bit_of (top-phase t ∙ w.phase) in
@@ -116,7 +117,7 @@ module _ {s : Source} {mem out : List ℕ} {m : Machine} (w : Waiting mem m Phas
             signal-fits h m.from j (is-bus h).width (is-bus h).declared (is-bus h).means (omega arith)
 
         pub bit-steps : {out' : List ℕ} {q r scope : ℕ} → scope ≡ get_or mem (m.frames + value_field) 0 → Signalled (note_at mem m.from note_address) j out out' m.nodes q → r ≡ min q (suc max_nodes)
-            → TakesToWrite s mem mem out out' m (Next (wrote-back m scope r))
+            → TakesToWrite s mem mem out out' m (Ok (Next (wrote-back m scope r)))
         bit-steps {out'} {q} {r} {scope} es g er = record {
           turns = λ R x o t.
               let v = by_phase t.frame Phase.bit_of (top-phase t ∙ w.phase) in

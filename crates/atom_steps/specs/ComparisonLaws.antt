@@ -1,14 +1,16 @@
 -- A comparison: its left operand, its right operand.
-use Rattle.std.specs.Prelude.{ℕ, suc, ◌+◌, min, Bool, List, ◌≡◌, refl, get_or}
+use Rattle.std.specs.Prelude.{ℕ, suc, ◌+◌, min, Bool, List, ◌≡◌, refl, get_or, Ok, Err}
 use Rattle.std.proofs.Common.{sym, ap, ap₂, ◌∙◌, subst, arith}
 use Rattle.node.specs.Limits.{max_nodes}
 use Rattle.node.specs.Ltl.{Formula}
 use Rattle.node.specs.Result.{Result, Done, Refused, ◌>>=◌}
 use Rattle.node.proofs.ResultLaws.{bind_at, bind_again, bind_to, bind_refused}
+use Rattle.node.specs.Returned.{refusal}
+use Rattle.machine.specs.declared.Move.TheVariants.{Next}
 use Rattle.writing.specs.Writing.{Wrote}
 use Rattle.language.specs.Operators.{Comparison}
 use Rattle.language.specs.Tree.{Expr}
-use Rattle.language.specs.Values.{Value, number, bus, choice, value}
+use Rattle.language.specs.Values.{Value, bus, value}
 use Rattle.language.specs.DeclaredNames.{Port}
 use Rattle.language.specs.Expansion.{Context, truth, test, against, compared, expansion}
 use Rattle.entries.specs.Kinds as Kind
@@ -27,7 +29,7 @@ use Rattle.machine.specs.OperatorLaws.{op_comparison}
 use Rattle.machine.specs.Telling.{is_number, is_bus, is_unsized, is_choice, is_nodes, Tells}
 use Rattle.machine.specs.Table.{Began}
 use Rattle.machine.specs.States.{mode_of, written, TopOf, Topped, Takes, TakesToWrite}
-use Rattle.machine.specs.Moves.{came, wrote, popped}
+use Rattle.machine.specs.Moves.{wrote, popped}
 use Rattle.machine.specs.FrameViews.{by_phase}
 use Rattle.machine.specs.TakeLaws.{words, entry_word_lem, at-word, value-word, other_word, refuses, top-phase, top_as}
 use Rattle.machine.specs.Openings.{Renewed}
@@ -35,7 +37,6 @@ use Rattle.machine.specs.StartLaws.{StartsTwo}
 use Rattle.machine.specs.RenewLaws.{follows-last}
 use Rattle.machine.specs.BindLaws.{take-value, then_nodes}
 use Rattle.machine.specs.declared.Machine.{Machine}
-use Rattle.machine.specs.declared.Move.TheVariants.{Next, Refused as Refuses}
 use Rattle.machine.specs.Entering.{Expands, Waiting}
 use Rattle.machine.specs.EnteringLaws.{works-formula, operand_making}
 use Rattle.machine.specs.JoinedLaws.{joined-two, joined_op}
@@ -102,7 +103,7 @@ module _ {s : Source} {mem : List ℕ} {m : Machine} (w : Waiting mem m Phase.le
           choice = λ z. (tells-choice W m.mode m.value m.from g.value g.tells z).declared;
         }
 
-    pub left-steps : {mem' : List ℕ} {r : ℕ} {n : Machine} → NameOf m r → Renewed mem mem' m Phase.right_compared m.mode m.value r (mode_of Evaluate) n → Takes s mem mem' m (Next n)
+    pub left-steps : {mem' : List ℕ} {r : ℕ} {n : Machine} → NameOf m r → Renewed mem mem' m Phase.right_compared m.mode m.value r (mode_of Evaluate) n → Takes s mem mem' m (Ok (Next n))
     left-steps {mem'} {r} z q = record {
       turns = λ R x o out t.
           let v = by_phase t.frame Phase.left_compared (top-phase t ∙ w.phase) in
@@ -145,7 +146,7 @@ module _ {s : Source} {mem out : List ℕ} {m : Machine} (w : Waiting mem m Phas
       op-is : {i : ℕ} → i ≡ infix_code_at (number_at s.work (get_or mem (m.frames + entry_field) 0)) → comparison i ≡ op
       op-is ei = ap comparison (ei ∙ ap (λ (j : ℕ). infix_code_at (number_at s.work j)) (entry_word_lem h)) ∙ op_comparison h.at.waits.1
 
-    pub right-unsized : {p : ℕ} → get_or mem (m.frames + at_field) 0 ≡ is_unsized → p ≡ get_or mem (m.frames + value_field) 0 → TakesToWrite s mem mem out out m (Refuses 13 p)
+    pub right-unsized : {p : ℕ} → get_or mem (m.frames + at_field) 0 ≡ is_unsized → p ≡ get_or mem (m.frames + value_field) 0 → TakesToWrite s mem mem out out m (Err (refusal 13 p))
     right-unsized {p} z ep = record {
       turns = λ R x o t.
           let v = by_phase t.frame Phase.right_compared (top-phase t ∙ w.phase) in
@@ -156,7 +157,7 @@ module _ {s : Source} {mem out : List ℕ} {m : Machine} (w : Waiting mem m Phas
 
     pub right-uncompared : (get_or mem (m.frames + at_field) 0 ≡ is_number → ⊥) → (get_or mem (m.frames + at_field) 0 ≡ is_bus → ⊥)
         → (get_or mem (m.frames + at_field) 0 ≡ is_choice → ⊥) → (get_or mem (m.frames + at_field) 0 ≡ is_unsized → ⊥)
-        → TakesToWrite s mem mem out out m (Refuses 9 0)
+        → TakesToWrite s mem mem out out m (Err (refusal 9 0))
     right-uncompared a b c d = record {
       turns = λ R x o t.
           let v = by_phase t.frame Phase.right_compared (top-phase t ∙ w.phase) in
@@ -166,7 +167,7 @@ module _ {s : Source} {mem out : List ℕ} {m : Machine} (w : Waiting mem m Phas
 
 -- a number on the left
 module _ {s : Source} {mem out : List ℕ} {m : Machine} (w : Comparing mem m is_number) where
-  pub number-misfits : (m.mode ≡ is_number → ⊥) → TakesToWrite s mem mem out out m (Refuses 9 0)
+  pub number-misfits : (m.mode ≡ is_number → ⊥) → TakesToWrite s mem mem out out m (Err (refusal 9 0))
   number-misfits z = record {
     turns = λ R x o t.
         let v = by_phase t.frame Phase.right_compared (top-phase t ∙ w.waiting.phase) in
@@ -178,7 +179,7 @@ module _ {s : Source} {mem out : List ℕ} {m : Machine} (w : Comparing mem m is
   }
 
   pub number-steps : m.mode ≡ is_number → {i a r n : ℕ} {b : Bool} {out' : List ℕ} → i ≡ infix_code_at (number_at s.work (get_or mem (m.frames + entry_field) 0)) → a ≡ get_or mem (m.frames + value_field) 0
-      → b ≡ test (comparison i) a m.value → Wrote (truth b) out out' m.nodes r → n ≡ min r (suc max_nodes) → TakesToWrite s mem mem out out' m (Next (wrote (popped m) n))
+      → b ≡ test (comparison i) a m.value → Wrote (truth b) out out' m.nodes r → n ≡ min r (suc max_nodes) → TakesToWrite s mem mem out out' m (Ok (Next (wrote (popped m) n)))
   number-steps z {i} {a} {r} {n} {b} {out'} ei ea eb q en = record {
     turns = λ R x o t.
         let v = by_phase t.frame Phase.right_compared (top-phase t ∙ w.waiting.phase) in
@@ -195,7 +196,7 @@ module _ {s : Source} {mem out : List ℕ} {m : Machine} (w : Comparing mem m is
 
 -- a bus on the left
 module _ {s : Source} {mem out : List ℕ} {m : Machine} (w : Comparing mem m is_bus) where
-  pub bus-misfits : (m.mode ≡ is_choice → ⊥) → TakesToWrite s mem mem out out m (Refuses 9 0)
+  pub bus-misfits : (m.mode ≡ is_choice → ⊥) → TakesToWrite s mem mem out out m (Err (refusal 9 0))
   bus-misfits z = record {
     turns = λ R x o t.
         let v = by_phase t.frame Phase.right_compared (top-phase t ∙ w.waiting.phase) in
@@ -236,7 +237,7 @@ module _ {s : Source} {mem out : List ℕ} {m : Machine} (w : Comparing mem m is
 
 -- an identifier on the left
 module _ {s : Source} {mem out : List ℕ} {m : Machine} (w : Comparing mem m is_choice) where
-  pub identifier-refuses : {number place : ℕ} → ((R : Realm s) (y : Value) → Tells R.W m.mode m.value m.from y → bus y ≡ Refused number place) → TakesToWrite s mem mem out out m (Refuses number place)
+  pub identifier-refuses : {number place : ℕ} → ((R : Realm s) (y : Value) → Tells R.W m.mode m.value m.from y → bus y ≡ Refused number place) → TakesToWrite s mem mem out out m (Err (refusal number place))
   identifier-refuses {number} {place} q = record {
     turns = λ R x o t.
         let v = by_phase t.frame Phase.right_compared (top-phase t ∙ w.waiting.phase) in
@@ -247,10 +248,10 @@ module _ {s : Source} {mem out : List ℕ} {m : Machine} (w : Comparing mem m is
         ∙ bind_refused _ number place nodes (bind_refused _ number place _ (q R y.value y.tells)));
   }
 
-  pub identifier_unsized : m.mode ≡ is_unsized → TakesToWrite s mem mem out out m (Refuses 13 m.value)
+  pub identifier_unsized : m.mode ≡ is_unsized → TakesToWrite s mem mem out out m (Err (refusal 13 m.value))
   identifier_unsized z = identifier-refuses (λ R y t. ap bus (tells_unsized R.W m.mode m.value m.from y t z))
 
-  pub identifier-misfits : (m.mode ≡ is_unsized → ⊥) → (m.mode ≡ is_bus → ⊥) → TakesToWrite s mem mem out out m (Refuses 9 0)
+  pub identifier-misfits : (m.mode ≡ is_unsized → ⊥) → (m.mode ≡ is_bus → ⊥) → TakesToWrite s mem mem out out m (Err (refusal 9 0))
   identifier-misfits a b = identifier-refuses (λ R y t. tells_no_bus R.W m.mode m.value m.from y t b a)
 
   pub identifier_faces : m.mode ≡ is_bus → {i : ℕ} → i ≡ get_or mem (m.frames + other_field) 0 → Faces s mem out m m.value m.from i

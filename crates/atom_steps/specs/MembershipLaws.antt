@@ -1,10 +1,11 @@
 -- IN: its number, its set.
-use Rattle.std.specs.Prelude.{ℕ, suc, ◌+◌, min, Bool, List, ◌≡◌, refl, get_or}
+use Rattle.std.specs.Prelude.{ℕ, suc, ◌+◌, min, Bool, List, ◌≡◌, refl, get_or, Ok}
 use Rattle.std.proofs.Common.{sym, ap, ap₂, ◌∙◌, subst, arith}
 use Rattle.node.specs.Limits.{max_nodes}
 use Rattle.node.specs.Ltl.{Formula}
 use Rattle.node.specs.Result.{Result, Done, ◌>>=◌}
 use Rattle.node.proofs.ResultLaws.{bind_at}
+use Rattle.machine.specs.declared.Move.TheVariants.{Next}
 use Rattle.writing.specs.Writing.{Wrote}
 use Rattle.language.specs.Tree.{Expr}
 use Rattle.language.specs.Sets.{member_of}
@@ -31,7 +32,6 @@ use Rattle.machine.specs.StartLaws.{StartsTwo}
 use Rattle.machine.specs.RenewLaws.{follows-last}
 use Rattle.machine.specs.BindLaws.{take-number, take-set, then_nodes}
 use Rattle.machine.specs.declared.Machine.{Machine}
-use Rattle.machine.specs.declared.Move.TheVariants.{Next}
 use Rattle.machine.specs.Entering.{Expands, Waiting}
 use Rattle.machine.specs.EnteringLaws.{works-formula, operand_making}
 use Rattle.machine.specs.JoinedLaws.{joined-two}
@@ -74,7 +74,7 @@ membership-starts {s} {mem} {m} k =
 
 -- the number has come
 module _ {s : Source} {mem : List ℕ} {m : Machine} (w : Waiting mem m Phase.member) where
-  pub number-steps : m.mode ≡ is_number → {mem' : List ℕ} {n : Machine} → Renewed mem mem' m Phase.among 0 m.value 0 (mode_of Evaluate) n → Takes s mem mem' m (Next n)
+  pub number-steps : m.mode ≡ is_number → {mem' : List ℕ} {n : Machine} → Renewed mem mem' m Phase.among 0 m.value 0 (mode_of Evaluate) n → Takes s mem mem' m (Ok (Next n))
   number-steps e q = record {
     turns = λ R x o out t.
         let v = by_phase t.frame Phase.member (top-phase t ∙ w.phase) in
@@ -106,7 +106,7 @@ module _ {s : Source} {mem out : List ℕ} {m : Machine} (w : Waiting mem m Phas
         placed mem (span_of m) g.set g.held g.count g.fine (set-under h e)
 
     pub among-steps : {i r n : ℕ} {b : Bool} {out' : List ℕ} → i ≡ get_or mem (m.frames + value_field) 0 → b ≡ member_of (elements_at mem (span_of m)) i → Wrote (truth b) out out' m.nodes r
-        → n ≡ min r (suc max_nodes) → TakesToWrite s mem mem out out' m (Next (wrote (popped m) n))
+        → n ≡ min r (suc max_nodes) → TakesToWrite s mem mem out out' m (Ok (Next (wrote (popped m) n)))
     among-steps {i} {r} {n} {b} {out'} ei eb q en = record {
       turns = λ R x o t.
           let v = by_phase t.frame Phase.among (top-phase t ∙ w.phase) in

@@ -14,6 +14,7 @@ pub fn signal_at(memory: &[u32], r: usize, i: u32, table: &mut [u32; MAX_NODES],
     requires { (note_words * r + note_address < length memory.now) × (at ≤ max_nodes → note_at memory.now r note_address + i < field_limit) }
     ensures { Signalled (note_at memory.now r note_address) i table.old table.new at result }
 {
+    // A count that goes on where the table is full (head of crate writing).
     if MAX_NODES < at {
         return TOO_MANY;
     }

@@ -1,8 +1,9 @@
 -- The written texts of document 01's file and of the corners, and 22, by computing.
-use Rattle.std.specs.Prelude.{ℕ, ◌≡◌, refl, List, ◌++◌, length}
+use Rattle.std.specs.Prelude.{ℕ, ◌≡◌, refl, List, ◌++◌, length, Ok, Err}
 use Prim.Native.String.{String}
 use Rattle.node.specs.Ltl.{True}
 use Rattle.node.specs.Result.{Done, Refused, ◌>>=◌, guard}
+use Rattle.node.specs.Returned.{refusal}
 use Rattle.node.specs.Postorder.{size, nodes_from}
 use Rattle.node.specs.Written.{nodes_of, count}
 use Rattle.language.specs.Bytes.{ascii}
@@ -14,8 +15,6 @@ use Rattle.basic.specs.Spelling.{digits_of}
 use Rattle.basic.specs.Basic.{formula_tokens, info_tokens, line_tokens, basic_tokens, parted, tokens_of}
 use Rattle.basic.specs.Writing.{written, writing, bytes_told, text_after}
 use Rattle.basic.specs.Answer.{tells}
-use Rattle.basic.specs.declared.Written.{Written}
-use Rattle.basic.specs.declared.Written.TheVariants.{Bytes}
 use Rattle.basic.specs.Statements.{guaranteeing, front, behind}
 
 -- 'One file in full'
@@ -136,8 +135,8 @@ unfolding text_expansion parsed spec_expansion ◌>>=◌ guard refuse_at count s
 read_again = refl
 
 -- what an answer tells
-bytes_told_lem : tells (Bytes 266) ≡ Done 266
+bytes_told_lem : tells (Ok 266) ≡ Done 266
 bytes_told_lem = refl
 
-refusal_told : tells (Written.Refused 22 1) ≡ Refused 22 1
+refusal_told : tells (Err (refusal 22 1)) ≡ Refused 22 1
 refusal_told = refl

@@ -1,9 +1,8 @@
--- What a `Written` says: the count of bytes, or a refusal with its number and place.
-use Rattle.std.specs.Prelude.{ℕ}
+-- What the writer's answer says: the count of bytes, or a refusal with its number and place.
+use Rattle.std.specs.Prelude.{ℕ, Ok, Err}
 use Rattle.node.specs.Result.{Result, Done}
-use Rattle.basic.specs.declared.Written.{Written}
-use Rattle.basic.specs.declared.Written.TheVariants.{Bytes}
+use Rattle.node.specs.Returned.{Returned}
 
-abbrev pub tells : Written → Result ℕ
-tells (Bytes n) = Done n
-tells (Written.Refused number place) = Result.Refused number place
+abbrev pub tells : Returned ℕ → Result ℕ
+tells (Ok n) = Done n
+tells (Err r) = Result.Refused r.number r.place

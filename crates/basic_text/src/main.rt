@@ -1,8 +1,6 @@
 // Reads a text on standard input and prints the basic text of its nodes (document 02, F-1), or `refused`, number, place.
 #![tactic(auto)]
 
-use basic::Written;
-use node::Answer;
 use std::io::{self, BufWriter, Write};
 
 // More bytes than any text of 8,192 nodes and 255 signals has: 69 for a node, 67 for a signal, 135.
@@ -22,10 +20,9 @@ fn print(to: &mut impl Write, out: &[u8], n: usize) -> io::Result<()> {
 fn write(to: &mut impl Write, text: &[u8]) -> io::Result<()> {
     let mut work = input::large_buffer();
     let mut out = room();
-    let written = writer::write_basic(text, &mut work, &mut out);
-    match written {
-        Written::Bytes(bytes) => print(to, &out, bytes as usize),
-        Written::Refused(number, place) => listing::answer(to, Answer::Refused(number, place)),
+    match writer::write_basic(text, &mut work, &mut out) {
+        Ok(bytes) => print(to, &out, bytes as usize),
+        Err(refusal) => listing::answer(to, Err(refusal)),
     }
 }
 

@@ -1,5 +1,6 @@
 -- Laws of bits: a bit that was put, the others, and numbers by their bits. On numbers they hold for any width.
 use Rattle.std.specs.Prelude.{◌≡◌, ℕ, zero, suc, ◌+◌, ◌-◌, ◌*◌, ◌/◌, ◌%◌, ◌^◌, ◌<◌, ◌≤◌, Bool, true, false, ◌≢◌, List, length, ◌==◌, nat_eq, slice_index, refl}
+use Rattle.std.specs.Int.{from_bool}
 use Rattle.std.proofs.Common.{sym, ap, ◌∙◌, div-add-mod', div-lt_iff_lt-mul, mod-lt, div-one, mul_comm, pow-suc, add-one, arith, pow_pos, pow-add, pow_mono, length-set, get_or-set_same, get_or-set_other, eq-eqb, ne_eqb, eqb-true}
 use Rattle.std.proofs.Math.Nat.{div-div-eq-div-mul, mul-add-div_right, zero-div, mul-add-mod_self_right}
 use Rattle.std.proofs.Math.Decide.{dec_lt, ℕ_discrete}
@@ -10,6 +11,11 @@ use Rattle.bits.specs.Bits.{Values, digit, bit_of, bit_at, number, with_bit, put
 pub digit_lt : (v : Bool) → digit v < 2
 digit_lt true = omega arith
 digit_lt false = omega arith
+
+-- a bit converted to a number
+pub from_bool_digit : (v : Bool) → from_bool v ≡ digit v
+from_bool_digit true = refl
+from_bool_digit false = refl
 
 two_pos : (s : ℕ) → 0 < 2 ^ s
 two_pos s = pow_pos s

@@ -2,28 +2,16 @@
 #![tactic(auto)]
 
 ghost use Rattle.std.specs.Prelude.{◌≡◌, ◌*◌, ◌^◌, ◌<◌, length};
-ghost use Rattle.bits.specs.Bits.{bit_at, put_bit, with_bit, digit as digitOf};
+ghost use Rattle.bits.specs.Bits.{bit_at, put_bit, with_bit};
 
 pub mod spans;
-
-use basics::u8_u32::wide;
-
-// A bit as a number, 0 or 1.
-pub fn digit(v: bool) -> u32
-    ensures { result ≡ digitOf v }
-{
-    if v { 1 } else { 0 }
-}
 
 // Bit i of the bytes, most significant first.
 pub fn get_bit(bytes: &[u8], i: usize) -> bool
     requires { i < 8 * length bytes.now }
     ensures { result ≡ bit_at bytes.now i }
 {
-    let at = i / 8;
-    let s = 7 - i % 8;
-    let x = wide(bytes[at]);
-    (x >> s) % 2 == 1
+    (bytes[i / 8] >> (7 - i % 8)) % 2 == 1
 }
 
 // A power of 2 that a byte can hold.
@@ -40,7 +28,7 @@ fn with_bit(x: u32, s: usize, v: bool) -> u32
     ensures { (result ≡ with_bit x s v) × (result < 256) }
 {
     let p = power(s);
-    let d = digit(v);
+    let d = u32::from(v);
     let h = x >> s;
     (h / 2 * 2 + d) * p + x % p
 }
@@ -52,6 +40,6 @@ pub fn set_bit(bytes: &mut [u8], i: usize, v: bool)
 {
     let at = i / 8;
     let s = 7 - i % 8;
-    let x = wide(bytes[at]);
+    let x = u32::from(bytes[at]);
     bytes[at] = with_bit(x, s, v) as u8;
 }

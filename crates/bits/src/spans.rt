@@ -1,12 +1,11 @@
 // Spans: one bit, eight or 64 of some bytes as one number, most significant first, and a pass backwards over the values of a span.
 ghost use Rattle.std.specs.Prelude.{◌≡◌, ◌+◌, ◌-◌, ◌/◌, ◌%◌, ◌^◌, ◌<◌, ◌≤◌, length};
 ghost use Rattle.words.specs.Words.{read_at, write_at};
-ghost use Rattle.bits.specs.Bits.{bit_at, digit as digitOf};
+ghost use Rattle.bits.specs.Bits.{bit_at};
 ghost use Rattle.bits.specs.Ripple.{ripple as ripple'};
 ghost use Rattle.bits.specs.Spans.{Span, Within, Stored, ahead as ahead'};
 
 use crate::{get_bit, set_bit};
-use basics::u8_u64::wide;
 
 // All 64 bits.
 pub const ONES: u64 = 18446744073709551615;
@@ -14,18 +13,11 @@ pub const ONES: u64 = 18446744073709551615;
 // The highest of them.
 const HIGH: u64 = 9223372036854775808;
 
-// A bit as a number, 0 or 1.
-pub fn long_digit(v: bool) -> u64
-    ensures { result ≡ digitOf v }
-{
-    if v { 1 } else { 0 }
-}
-
 pub fn load_byte(bytes: &[u8], at: usize) -> u64
     requires { at + 1 ≤ length bytes.now }
     ensures { result ≡ read_at bytes.now at 1 }
 {
-    wide(bytes[at])
+    u64::from(bytes[at])
 }
 
 // Eight bytes as one word.
@@ -33,15 +25,16 @@ pub fn load_word(bytes: &[u8], at: usize) -> u64
     requires { at + 8 ≤ length bytes.now }
     ensures { result ≡ read_at bytes.now at 8 }
 {
-    let a = wide(bytes[at]);
-    let b = wide(bytes[at + 1]);
-    let c = wide(bytes[at + 2]);
-    let d = wide(bytes[at + 3]);
-    let e = wide(bytes[at + 4]);
-    let f = wide(bytes[at + 5]);
-    let g = wide(bytes[at + 6]);
-    let h = wide(bytes[at + 7]);
-    ((((((a * 256 + b) * 256 + c) * 256 + d) * 256 + e) * 256 + f) * 256 + g) * 256 + h
+    u64::from_be_bytes([
+        bytes[at],
+        bytes[at + 1],
+        bytes[at + 2],
+        bytes[at + 3],
+        bytes[at + 4],
+        bytes[at + 5],
+        bytes[at + 6],
+        bytes[at + 7],
+    ])
 }
 
 pub fn store_byte(bytes: &mut [u8], at: usize, v: u64)
@@ -51,7 +44,7 @@ pub fn store_byte(bytes: &mut [u8], at: usize, v: u64)
     bytes[at] = (v % 256) as u8;
 }
 
-// A word into eight bytes.
+// A word into eight bytes, as `write_at` has them: by quotients, where `to_be_bytes` would add a law for each.
 pub fn store_word(bytes: &mut [u8], at: usize, v: u64)
     requires { at + 8 ≤ length bytes.old }
     ensures { bytes.new ≡ write_at bytes.old at 8 v }
@@ -77,8 +70,7 @@ pub fn load(bytes: &[u8], i: usize, m: usize) -> u64
     if m == 8 {
         return load_byte(bytes, i / 8);
     }
-    let b = get_bit(bytes, i);
-    long_digit(b)
+    u64::from(get_bit(bytes, i))
 }
 
 // The m bits from bit i on become the low bits of v, and no other bit changes.
@@ -110,8 +102,8 @@ pub fn ripple(p: u64, g: u64, c: u64) -> u64
     ensures { result ≡ ripple' p g c }
 {
     let x = p | g;
-    let s = std::num::wrapping_add_u64(x, g);
-    let t = std::num::wrapping_add_u64(s, c);
+    let s = x.wrapping_add(g);
+    let t = s.wrapping_add(c);
     g | (p & (t ^ x ^ g))
 }
 

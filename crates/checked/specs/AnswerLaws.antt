@@ -1,20 +1,21 @@
 -- The answer by its cases, for whoever goes on with the tree.
-use Rattle.std.specs.Prelude.{ℕ, List, ◌≡◌}
+use Rattle.std.specs.Prelude.{ℕ, List, ◌≡◌, Ok, Err}
 use Rattle.std.proofs.Common.{subst}
 use Rattle.node.specs.Result.{Done, Refused as RefusedAt}
+use Rattle.node.specs.declared.Refusal.{Refusal}
+use Rattle.node.specs.Returned.{Returned}
 use Rattle.language.specs.Tree.{Spec}
 use Rattle.language.specs.Parsing.{parsed}
 use Rattle.parser.specs.declared.Facts.{Facts}
 use Rattle.checked.specs.declared.Counts.{Counts}
 use Rattle.checked.specs.declared.Checked.{Checked}
-use Rattle.checked.specs.declared.Checked.TheVariants.{Accepted, Refused}
 use Rattle.checked.specs.Checking.{Tree, Says, Checks}
 
-module _ {text w v refs found : List ℕ} {r : Checked} (h : Checks text w v refs found r) where
-  pub accepted : {c : Counts} {f : Facts} → r ≡ Accepted c f → Tree text v refs found c f
+module _ {text w v refs found : List ℕ} {r : Returned Checked} (h : Checks text w v refs found r) where
+  pub accepted : {c : Checked} → r ≡ Ok c → Tree text v refs found c.counts c.facts
   accepted e = subst (Says text v refs found) e h.says
 
-  pub refused : {number place : ℕ} → r ≡ Refused number place → parsed text ≡ RefusedAt number place
+  pub refused : {d : Refusal} → r ≡ Err d → parsed text ≡ RefusedAt d.number d.place
   refused e = subst (Says text v refs found) e h.says
 
 -- the tree is the text's

@@ -1,5 +1,5 @@
 -- Refusals 5 to 10 in their order, from what each stage answers.
-use Rattle.std.specs.Prelude.{ℕ, ◌≡◌, refl}
+use Rattle.std.specs.Prelude.{ℕ, ◌≡◌, refl, Some, None}
 use Rattle.std.proofs.Math.Option.{Option, none, some}
 use Rattle.std.proofs.Common.{sym, ◌∙◌}
 use Rattle.std.proofs.Math.Path.{ap}
@@ -11,9 +11,7 @@ use Rattle.language.specs.Names.{not_visible, declared_again, too_many}
 use Rattle.language.specs.Types.{wrong_type}
 use Rattle.language.specs.Words.{wrong_words}
 use Rattle.language.specs.Parsing.{well_formed}
-use Rattle.traversal.specs.declared.Place.{Place}
-use Rattle.traversal.specs.declared.Place.TheVariants.{At, Nowhere}
-use Rattle.traversal.specs.Places.{placed, place_in}
+use Rattle.traversal.specs.Places.{Place, placed, place_in}
 use Rattle.traversal.specs.PlaceLaws.{place-placed}
 use Rattle.names.specs.Resolved.{naming}
 
@@ -21,11 +19,11 @@ use Rattle.names.specs.Resolved.{naming}
 found : {r s : Place} (o : Option ℕ) → r ≡ placed o → r ≡ s → o ≡ place_in s
 found o h e = sym (place-placed o) ∙ ap place_in (sym h ∙ e)
 
-pub found_at : {r : Place} {p : ℕ} (o : Option ℕ) → r ≡ placed o → r ≡ At p → o ≡ some p
+pub found_at : {r : Place} {p : ℕ} (o : Option ℕ) → r ≡ placed o → r ≡ Some p → o ≡ some p
 unfolding place_in
 found_at o h e = found o h e
 
-pub found_none : {r : Place} (o : Option ℕ) → r ≡ placed o → r ≡ Nowhere → o ≡ none
+pub found_none : {r : Place} (o : Option ℕ) → r ≡ placed o → r ≡ None → o ≡ none
 unfolding place_in
 found_none o h e = found o h e
 

@@ -11,8 +11,7 @@ use Rattle.parser.specs.declared.Facts.{Facts}
 use Rattle.outline.specs.Outlining.{Outlined}
 use Rattle.spellings.specs.InternLaws.{lexed-from}
 use Rattle.names.specs.Resolved.{Stored, Resolved}
-use Rattle.traversal.specs.declared.Place.{Place}
-use Rattle.traversal.specs.Places.{placed}
+use Rattle.traversal.specs.Places.{Place, placed}
 use Rattle.depth.specs.Promise.{TooDeep}
 use Rattle.types.specs.Resolving.{tree_stored}
 use Rattle.types.specs.Running.{WrongType}

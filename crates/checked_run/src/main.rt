@@ -4,29 +4,22 @@
 
 use checked::Checked;
 use language::limits;
+use node::Refusal;
 use std::io::{self, BufWriter, Write};
 use std::rt::Files;
 use std::{env, fs};
 
-fn number(to: &mut impl Write, word: &[u8], n: u64) -> io::Result<()> {
-    to.write_all(word)?;
-    write!(to, "{n}")
-}
-
 // The counts of tokens, entries and declared names, or the refusal.
-fn say(to: &mut impl Write, answer: Checked) -> io::Result<()> {
+fn say(to: &mut impl Write, answer: Result<Checked, Refusal>) -> io::Result<()> {
     match answer {
-        Checked::Accepted(counts, _) => {
-            number(to, b": tokens ", counts.tokens as u64)?;
-            number(to, b", entries ", counts.entries as u64)?;
-            number(to, b", names ", counts.names as u64)?;
+        Ok(Checked { counts, .. }) => {
+            let tokens = counts.tokens;
+            let entries = counts.entries;
+            let names = counts.names;
+            writeln!(to, ": tokens {tokens}, entries {entries}, names {names}")
         }
-        Checked::Refused(refusal, place) => {
-            number(to, b": refused ", refusal as u64)?;
-            number(to, b" ", place as u64)?;
-        }
+        Err(Refusal { number, place }) => writeln!(to, ": refused {number} {place}"),
     }
-    to.write_all(b"\n")
 }
 
 // A file that cannot be opened is told on standard error.

@@ -1,10 +1,10 @@
 -- Row by row: those whose next mark admits a bit; bit by bit: every valuation.
-use Rattle.std.specs.Prelude.{ℕ, zero, suc, ◌+◌, ◌-◌, ◌≤◌, ◌<◌, Bool, ◌&&◌, not, ◌≡◌, refl, eqb, ltb, length, get_or, take, set, replicate}
+use Rattle.std.specs.Prelude.{ℕ, suc, ◌+◌, ◌-◌, ◌≤◌, ◌<◌, Bool, ◌&&◌, not, ◌≡◌, refl, eqb, length, get_or, take, set, replicate}
 use Rattle.std.proofs.Math.Bool.{true, false}
 use mathlib.Core.List.{List, [], ◌∷◌, ◌++◌, map, map-append}
 use Rattle.std.proofs.Math.Path.{sym, ap}
-use Rattle.std.proofs.Common.{◌∙◌, add-one, arith, length-set, take-suc, take-suc-set, get_or-set_same, get_or-set_other, eqb-true, lt-ltb}
-use Rattle.std.proofs.lemmas.List.{length-replicate, get_or-replicate}
+use Rattle.std.proofs.Common.{◌∙◌, add-one, arith, length-set, take-suc, take-suc-set, get_or-set_same, get_or-set_other, eqb-true, ne_eqb}
+use Rattle.std.proofs.lemmas.List.{length-replicate, get_or-replicate, take_all}
 use Rattle.std.proofs.Math.Seq.{slice-cons}
 use Rattle.std.proofs.lemmas.Bool.{eqb-false}
 use Rattle.language.specs.Limits.{max_words, max_marks}
@@ -54,41 +54,38 @@ rows_more rows k row h l full =
     go j g false e = ap length (get_or-set_other rows k j row [] (eqb-false j k e)) ∙ h.each j (omega (arith, g, length-set rows k row))
 
 -- of the first j rows those are kept whose mark i admits the bit
-pub record Keeping (holds : Bool) (rows : List (List ℕ)) (count i width j : ℕ) (kept : List (List ℕ)) (k : ℕ) : Type 0 where
+pub record Keeping (holds : Bool) (rows : List (List ℕ)) (i width j : ℕ) (kept : List (List ℕ)) (k : ℕ) : Type 0 where
   pub filled : Rows kept k
   pub fewer : k ≤ j
-  pub inside : j ≤ count
+  pub inside : j ≤ length rows
   pub same : rests (i + 1) width (take k kept) ≡ after holds (rests i width (take j rows))
 
-pub keeping_none : (holds : Bool) (rows : List (List ℕ)) (count i width : ℕ) (kept : List (List ℕ)) → Rows kept 0 → Keeping holds rows count i width 0 kept 0
+pub keeping_none : (holds : Bool) (rows : List (List ℕ)) (i width : ℕ) (kept : List (List ℕ)) → Rows kept 0 → Keeping holds rows i width 0 kept 0
 unfolding rests
-keeping_none holds rows count i width kept h = record { filled = h; fewer = omega arith; inside = omega arith; same = refl }
+keeping_none holds rows i width kept h = record { filled = h; fewer = omega arith; inside = omega arith; same = refl }
 
-module _ {holds : Bool} {rows : List (List ℕ)} {count i width j : ℕ} {kept : List (List ℕ)} {k : ℕ} (table : Rows rows count) (bit : i < width) (narrow : width ≤ max_marks)
-    (h : Keeping holds rows count i width j kept k) (more : j < count) where
+module _ {holds : Bool} {rows : List (List ℕ)} {i width j : ℕ} {kept : List (List ℕ)} {k : ℕ} (few : length rows ≤ max_words)
+    (bit : i < width) (narrow : width ≤ max_marks) (h : Keeping holds rows i width j kept k) (more : j < length rows) (full : length (get_or rows j []) ≡ max_marks) where
   row : List ℕ
   row = get_or rows j []
-
-  pub row_full : length (get_or rows j []) ≡ max_marks
-  row_full = table.each j (omega (arith, more, table.few, table.all))
 
   passed : after holds (rests i width (take (j + 1) rows)) ≡ rests (i + 1) width (take k kept) ++ remaining holds (mark_of (get_or (get_or rows j []) i 0)) (rest (i + 1) width (get_or rows j []))
   unfolding rests
   passed =
       ap (λ (n : ℕ). after holds (rests i width (take n rows))) (add-one j)
-      ∙ ap (λ (l : List (List ℕ)). after holds (rests i width l)) (take-suc rows j [] (omega (arith, more, table.few, table.all)))
+      ∙ ap (λ (l : List (List ℕ)). after holds (rests i width l)) (take-suc rows j [] more)
       ∙ ap (after holds) (map-append (rest i width) (take j rows) (get_or rows j [] ∷ []) ∙ ap (λ (v : List Mark). rests i width (take j rows) ++ (v ∷ []))
-      (rest-cons i width (get_or rows j []) bit (omega (arith, row_full))))
+      (rest-cons i width (get_or rows j []) bit (omega arith)))
       ∙ after_more holds (rests i width (take j rows)) _ _
       ∙ ap (λ (l : List (List Mark)). l ++ remaining holds (mark_of (get_or (get_or rows j []) i 0)) (rest (i + 1) width (get_or rows j []))) (sym h.same)
 
-  pub keeping-row : admits holds (mark_of (get_or (get_or rows j []) i 0)) ≡ true → Keeping holds rows count i width (j + 1) (set kept k (get_or rows j [])) (k + 1)
+  pub keeping-row : admits holds (mark_of (get_or (get_or rows j []) i 0)) ≡ true → Keeping holds rows i width (j + 1) (set kept k (get_or rows j [])) (k + 1)
   unfolding rests
   keeping-row e =
       let f = h.fewer in
-      let room : k < max_words = omega (arith, more, table.few) in
+      let room : k < max_words = omega arith in
       record {
-        filled = rows_more kept k (get_or rows j []) h.filled room row_full;
+        filled = rows_more kept k (get_or rows j []) h.filled room full;
         fewer = omega arith;
         inside = omega arith;
         same =
@@ -99,7 +96,7 @@ module _ {holds : Bool} {rows : List (List ℕ)} {count i width j : ℕ} {kept :
             ∙ sym passed;
       }
 
-  pub keeping-not : admits holds (mark_of (get_or (get_or rows j []) i 0)) ≡ false → Keeping holds rows count i width (j + 1) kept k
+  pub keeping-not : admits holds (mark_of (get_or (get_or rows j []) i 0)) ≡ false → Keeping holds rows i width (j + 1) kept k
   keeping-not e =
       let f = h.fewer in
       record {
@@ -114,23 +111,21 @@ module _ {holds : Bool} {rows : List (List ℕ)} {count i width j : ℕ} {kept :
       append-none [] = refl
       append-none (v ∷ l) = ap (λ (m : List (List Mark)). v ∷ m) (append-none l)
 
-pub keeping_all : {holds : Bool} {rows : List (List ℕ)} {count i width j : ℕ} {kept : List (List ℕ)} {k : ℕ} → Keeping holds rows count i width j kept k → count ≤ j
-    → Kept (after holds (rests i width (take count rows))) (i + 1) width kept k
-keeping_all {holds} {rows} {count} {i} {width} {j} h l =
-    let e : j ≡ count = omega (arith, h.inside) in
-    record { filled = h.filled; same = h.same ∙ ap (λ (n : ℕ). after holds (rests i width (take n rows))) e }
+pub keeping_all : {holds : Bool} {rows : List (List ℕ)} {i width j : ℕ} {kept : List (List ℕ)} {k : ℕ} → Keeping holds rows i width j kept k → length rows ≤ j
+    → Kept (after holds (rests i width rows)) (i + 1) width kept k
+keeping_all {holds} {rows} {i} {width} {j} h l =
+    record { filled = h.filled; same = h.same ∙ ap (λ (t : List (List ℕ)). after holds (rests i width t)) (take_all j rows l) }
 
 -- no bit left: one row names what is left
-pub covered_none : (rows : List (List ℕ)) (count i width : ℕ) → Rows rows count → width ≤ i → ltb 0 count ≡ covered (width - i) (rests i width (take count rows))
+pub covered_none : (rows : List (List ℕ)) (i width : ℕ) → width ≤ i → not (eqb (length rows) 0) ≡ covered (width - i) (rests i width rows)
 unfolding rests
-covered_none rows count i width h l =
+covered_none rows i width l =
     let z : width - i ≡ 0 = omega arith in
-    rw z (go rows count (let a = h.all in let b = h.few in omega arith))
+    rw z (go rows)
   where
-    go : (rows : List (List ℕ)) (count : ℕ) → count ≤ length rows → ltb 0 count ≡ covered 0 (map (rest i width) (take count rows))
-    go rows zero l = refl
-    go [] (suc n) l = absurd (omega arith)
-    go (r ∷ rows) (suc n) l = lt-ltb 0 (suc n) (omega arith)
+    go : (rows : List (List ℕ)) → not (eqb (length rows) 0) ≡ covered 0 (map (rest i width) rows)
+    go [] = refl
+    go (r ∷ rows) = ap not (ne_eqb (suc (length rows)) 0 (λ e. omega arith))
 
 pub covered-bit : (i width : ℕ) (vs : List (List Mark)) → i < width → covered (width - i) vs ≡ covered (width - (i + 1)) (after false vs) && covered (width - (i + 1)) (after true vs)
 covered-bit i width vs h = let e : width - i ≡ suc (width - (i + 1)) = omega arith in ap (λ (n : ℕ). covered n vs) e

@@ -1,6 +1,6 @@
 // The coverage test: do the words of an enumeration name every valuation of its bits?
-ghost use Rattle.std.specs.Prelude.{◌≡◌, ◌+◌, ◌-◌, ◌≤◌, ◌<◌, take};
-ghost use Rattle.language.specs.Limits.{max_marks};
+ghost use Rattle.std.specs.Prelude.{◌≡◌, ◌+◌, ◌-◌, ◌≤◌, ◌<◌, length};
+ghost use Rattle.language.specs.Limits.{max_marks, max_words};
 ghost use Rattle.language.specs.Numbering.{covered as covered', after as after', mark_of, admits as admits'};
 ghost use Rattle.choices.specs.Coverage.{Rows, rests, Kept};
 ghost use Rattle.choices.specs.Promise.{Tabled, Unnamed};
@@ -28,43 +28,36 @@ fn admits(holds: bool, mark: u8) -> bool
 fn after(
     holds: bool,
     rows: &[[u8; MARKS]],
-    count: usize,
     i: usize,
     width: usize,
     kept: &mut [[u8; MARKS]],
 ) -> usize
-    requires { Rows rows.now count × (Rows kept.old 0 × ((i < width) × (width ≤ max_marks))) }
-    ensures { Kept (after' holds (rests i width (take count rows.now))) (i + 1) width kept.new result }
+    requires { (length rows.now ≤ max_words) × (Rows kept.old 0 × ((i < width) × (width ≤ max_marks))) }
+    ensures { Kept (after' holds (rests i width rows.now)) (i + 1) width kept.new result }
 {
     let mut k = 0;
-    let mut j = 0;
-    while j < count {
-        let row = rows[j];
-        let mark = row[i];
-        if admits(holds, mark) {
-            kept[k] = row;
+    for row in rows {
+        if admits(holds, row[i]) {
+            kept[k] = *row;
             k += 1;
-            j += 1;
-            continue;
         }
-        j += 1;
     }
     k
 }
 
 // From mark i on. The rows are those of an enumeration that has passed refusal 10.
-fn covered(rows: &[[u8; MARKS]], count: usize, i: usize, width: usize) -> bool
-    requires { Rows rows.now count × ((i ≤ width) × (width ≤ max_marks)) }
-    ensures { result ≡ covered' (width - i) (rests i width (take count rows.now)) }
+fn covered(rows: &[[u8; MARKS]], i: usize, width: usize) -> bool
+    requires { (length rows.now ≤ max_words) × ((i ≤ width) × (width ≤ max_marks)) }
+    ensures { result ≡ covered' (width - i) (rests i width rows.now) }
 {
     if width <= i {
-        return 0 < count;
+        return !rows.is_empty();
     }
     let mut kept = [[0u8; MARKS]; MAX_WORDS];
-    let n = after(false, rows, count, i, width, &mut kept);
-    if covered(&kept, n, i + 1, width) {
-        let m = after(true, rows, count, i, width, &mut kept);
-        return covered(&kept, m, i + 1, width);
+    let n = after(false, rows, i, width, &mut kept);
+    if covered(&kept[..n], i + 1, width) {
+        let m = after(true, rows, i, width, &mut kept);
+        return covered(&kept[..m], i + 1, width);
     }
     false
 }
@@ -77,22 +70,18 @@ pub fn leaves_unnamed(text: &[u8], work: &[u8], from: usize, to: usize) -> bool
     let mut rows = [[0u8; MARKS]; MAX_WORDS];
     let mut count = 0;
     let mut width = 0;
-    let mut i = from;
-    while i < to {
+    for i in from..to {
         let c = cell_at(work, i);
         if c.kind != kinds::WORD {
-            i += 1;
             continue;
         }
-        let token = c.token;
-        width = (token % LENGTHS) as usize;
-        let place = (token / LENGTHS % OFFSETS) as usize;
+        width = (c.token % LENGTHS) as usize;
+        let place = (c.token / LENGTHS % OFFSETS) as usize;
         rows[count] = marks(text, place, width);
         count += 1;
-        i += 1;
     }
     if count == 0 {
         return false;
     }
-    !covered(&rows, count, 0, width)
+    !covered(&rows[..count], 0, width)
 }

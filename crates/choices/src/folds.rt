@@ -4,7 +4,7 @@ ghost use Rattle.choices.specs.Folds.{Furthers, Finishes};
 use node::{MAX_NODES, Node};
 use writing::{constant, join};
 
-// Whether there was a formula yet, and where what is written ends.
+// Whether there was a formula yet, and where what is written ends: before the first formula too, so `end` is no Option's value.
 #[derive(Clone, Copy)]
 pub struct Fold {
     pub some: bool,
@@ -15,13 +15,9 @@ pub struct Fold {
 pub fn further(all: bool, f: Fold, r: usize, out: &mut [u32; MAX_NODES]) -> Fold
     ensures { Furthers all f r out.old out.new result }
 {
-    let some = f.some;
-    if some {
-        if all {
-            let end = join(Node::AND, f.end, r, out);
-            return Fold { some: true, end };
-        }
-        let end = join(Node::OR, f.end, r, out);
+    if f.some {
+        let operator = if all { Node::AND } else { Node::OR };
+        let end = join(operator, f.end, r, out);
         return Fold { some: true, end };
     }
     Fold { some: true, end: r }
@@ -31,8 +27,7 @@ pub fn further(all: bool, f: Fold, r: usize, out: &mut [u32; MAX_NODES]) -> Fold
 pub fn finish(all: bool, f: Fold, out: &mut [u32; MAX_NODES]) -> usize
     ensures { Finishes all f out.old out.new result }
 {
-    let some = f.some;
-    if some {
+    if f.some {
         return f.end;
     }
     constant(all, out, f.end)

@@ -33,19 +33,16 @@ fn end_from(work: &[u8], low: u32, i: usize) -> usize
     requires { work_bytes ≤ length work.now }
     ensures { result ≡ end_from work.now low i }
 {
-    let mut j = i;
-    while j < limits::MAX_TOKENS {
-        let c = cell_at(work, j);
-        let kind = c.kind;
+    for j in i..limits::MAX_TOKENS {
+        let kind = cell_at(work, j).kind;
         if kind < low {
             return j;
         }
         if kinds::WORD < kind {
             return j;
         }
-        j += 1;
     }
-    j
+    i.max(limits::MAX_TOKENS)
 }
 
 // Where the words behind an identifier's entry end.
@@ -69,17 +66,14 @@ pub fn widths_are(work: &[u8], from: usize, to: usize, n: u32) -> bool
     requires { Readable work.now to }
     ensures { WidthsAre work.now from to n result }
 {
-    let mut i = from;
-    while i < to {
+    for i in from..to {
         let c = cell_at(work, i);
         if c.kind != kinds::WORD {
-            i += 1;
             continue;
         }
         if c.token % LENGTHS != n {
             return false;
         }
-        i += 1;
     }
     true
 }
@@ -116,17 +110,13 @@ fn matches(text: &[u8], token: u32, first: u32, out: &mut [u32; MAX_NODES], at: 
         some: false,
         end: at,
     };
-    let mut i = 0;
-    while i < n {
+    for i in 0..n {
         let mark = byte_at(text, place + i as usize);
         if starred(mark) {
-            i += 1;
             continue;
         }
-        let end = f.end;
-        let r = literal(mark == PRESENT, first + i, out, end);
+        let r = literal(mark == PRESENT, first + i, out, f.end);
         f = further(true, f, r, out);
-        i += 1;
     }
     finish(true, f, out)
 }
@@ -144,6 +134,7 @@ pub fn one_of(
     requires { Readable work.now to × (at ≤ max_nodes → first ≤ max_signals) }
     ensures { OneOf text.now work.now from to first out.old out.new at result }
 {
+    // A count that goes on where the table is full (head of crate writing).
     if MAX_NODES < at {
         return TOO_MANY;
     }
@@ -151,17 +142,13 @@ pub fn one_of(
         some: false,
         end: at,
     };
-    let mut i = from;
-    while i < to {
+    for i in from..to {
         let c = cell_at(work, i);
         if c.kind != kinds::WORD {
-            i += 1;
             continue;
         }
-        let end = f.end;
-        let r = matches(text, c.token, first, out, end);
+        let r = matches(text, c.token, first, out, f.end);
         f = further(false, f, r, out);
-        i += 1;
     }
     finish(false, f, out)
 }

@@ -1,12 +1,11 @@
 -- What `convert` promises follows from the answer and the buffers that the definition gives.
-use Rattle.std.specs.Prelude.{ℕ, ◌≤◌, ◌≡◌, List, length, drop}
+use Rattle.std.specs.Prelude.{ℕ, ◌≤◌, ◌≡◌, List, length, drop, Ok}
 use Rattle.std.proofs.Common.{ap, ◌∙◌, subst, le-leb}
 use Rattle.node.specs.Limits.{max_nodes}
 use Rattle.node.specs.Result.{Done, ◌>>=◌, Counts}
 use Rattle.node.proofs.ResultLaws.{guard-done, guard-pass, bind_done}
 use Rattle.node.specs.Written.{count}
-use Rattle.node.specs.declared.Answer.{Answer}
-use Rattle.node.specs.declared.Answer.TheVariants.{Accepted}
+use Rattle.node.specs.Answer.{Answer}
 use Rattle.forms.specs.Forms.{form}
 use Rattle.language.specs.Limits.{work_bytes}
 use Rattle.language.specs.Reading.{NumberedFormula, counts, text_expansion, delivered, nodes_after, signals_after}
@@ -41,7 +40,7 @@ module _ (text : List ℕ) (number work : ℕ) (nodes signals : List ℕ) where
 -- the last two follow from the first
 module _ (text : List ℕ) (number : ℕ) {work nodes signals work' nodes' signals' : List ℕ} {r : Answer}
     (y : Yields (conversion text number work nodes signals) work nodes signals work' nodes' signals' r) where
-  demanded : (n s : ℕ) → r ≡ Accepted n s → Demand3 text number nodes' signals' n s
+  demanded : (n s : ℕ) → r ≡ Ok (n, s) → Demand3 text number nodes' signals' n s
   demanded n s e =
       let a = accepted y e in
       let d = a.value in

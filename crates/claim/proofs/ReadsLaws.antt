@@ -1,6 +1,6 @@
 -- What `read` promises follows from the answer and the buffers that the definition gives.
 use Rattle.std.specs.Prelude.{List, ℕ, length}
-use Rattle.node.specs.declared.Answer.{Answer}
+use Rattle.node.specs.Answer.{Answer}
 use Rattle.language.specs.Reading.{reading}
 use Rattle.claim.proofs.ClaimLaws.{reader_claim}
 use Rattle.claim.specs.Yields.{Yields}

@@ -1,11 +1,10 @@
 -- What an accepted or a refused answer tells of the definition's result.
-use Rattle.std.specs.Prelude.{ℕ, ◌≡◌, List}
+use Rattle.std.specs.Prelude.{ℕ, ◌≡◌, List, Ok, Err}
 use Rattle.std.proofs.Common.{ap, ◌∙◌, sym}
 use Rattle.node.specs.Result.{Result, Done, Refused, ◌>>=◌}
 use Rattle.node.proofs.ResultLaws.{bind_done, not_done}
-use Rattle.node.specs.Answer.{says}
-use Rattle.node.specs.declared.Answer.{Answer}
-use Rattle.node.specs.declared.Answer.TheVariants.{Accepted}
+use Rattle.node.specs.Answer.{Answer, says}
+use Rattle.node.specs.declared.Refusal.{Refusal}
 use Rattle.language.specs.Reading.{NumberedFormula, counts}
 use Rattle.claim.specs.Yields.{told, Yields}
 
@@ -24,8 +23,8 @@ told-refused (Done c) e = absurd (not_done e)
 told-refused (Refused m q) e = cc
 
 module _ {result : Result NumberedFormula} {work nodes signals work' nodes' signals' : List ℕ} {r : Answer} (y : Yields result work nodes signals work' nodes' signals' r) where
-  pub accepted : {n s : ℕ} → r ≡ Accepted n s → Told result n s
+  pub accepted : {n s : ℕ} → r ≡ Ok (n, s) → Told result n s
   accepted e = told-done result (ap says (sym e) ∙ y.answer)
 
-  pub refused : {n p : ℕ} → r ≡ Answer.Refused n p → result ≡ Refused n p
+  pub refused : {e : Refusal} → r ≡ Err e → result ≡ Refused e.number e.place
   refused e = told-refused result (ap says (sym e) ∙ y.answer)

@@ -1,7 +1,7 @@
 -- What `read` promises: the answer and the buffers that the definition gives; and so, for an accepted text, demand 3 on what stands in the lent buffers.
 use Rattle.std.specs.Prelude.{◌≡◌, List, ℕ, length}
 use Rattle.node.specs.Result.{Done}
-use Rattle.node.specs.declared.Answer.{Answer}
+use Rattle.node.specs.Answer.{Answer}
 use Rattle.language.specs.Reading.{NumberedFormula, reading}
 use Rattle.claim.specs.Claim.{Leaves}
 use Rattle.claim.specs.Yields.{Yields}

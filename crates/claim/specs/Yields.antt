@@ -1,8 +1,7 @@
 -- An answer and the lent buffers after it, of what the definition gives: document 01, 'Refusals with their places'. The buffers after the answer are marked '.
 use Rattle.std.specs.Prelude.{ℕ, ◌≡◌, List}
 use Rattle.node.specs.Result.{Result, Done, ◌>>=◌, Counts}
-use Rattle.node.specs.Answer.{says}
-use Rattle.node.specs.declared.Answer.{Answer}
+use Rattle.node.specs.Answer.{Answer, says}
 use Rattle.language.specs.Reading.{NumberedFormula, counts, nodes_after, signals_after, work_after}
 
 -- 'accepted with its counts or a refusal, number and place'

@@ -1,5 +1,5 @@
 -- `convert` by stages: the reader's answer into a table and a list of the largest size, then what is written out of them.
-use Rattle.std.specs.Prelude.{ℕ, ◌≤◌, ◌≡◌, List, ◌++◌, drop}
+use Rattle.std.specs.Prelude.{ℕ, ◌≤◌, ◌≡◌, List, ◌++◌, drop, Ok, Err}
 use Rattle.std.proofs.Math.Path.{ap, sym, subst}
 use Rattle.std.proofs.Common.{ap₂, ◌∙◌}
 use Rattle.std.proofs.Math.ListN.{length, take}
@@ -9,9 +9,8 @@ use Rattle.node.specs.Result.{Result, Done, Refused, ◌>>=◌, Counts}
 use Rattle.node.specs.Table.{root}
 use Rattle.node.specs.Written.{nodes_of, count}
 use Rattle.node.proofs.WrittenLaws.{length_of, table-root}
-use Rattle.node.specs.Answer.{says}
-use Rattle.node.specs.declared.Answer.{Answer}
-use Rattle.node.specs.declared.Answer.TheVariants.{Accepted}
+use Rattle.node.specs.Answer.{Answer, says}
+use Rattle.node.specs.declared.Refusal.{Refusal}
 use Rattle.forms.specs.Forms.{form}
 use Rattle.rewriter.specs.Rewriting.{rewriting, target, leaves}
 use Rattle.language.specs.Limits.{max_signals}
@@ -51,20 +50,20 @@ module _ (number : ℕ) (nodes signals : List ℕ) {text work work' table table'
       ∙ ap (λ (x : Result NumberedFormula). x >>= formed number (length nodes) (length signals)) (ap₂ (reading text (length work)) (sym large) (sym long) ∙ e)
 
   -- a text that is refused
-  pub read-refused : {n p : ℕ} → a ≡ Answer.Refused n p → Converts text number work nodes signals work' nodes signals a
+  pub read-refused : {e : Refusal} → a ≡ Err e → Converts text number work nodes signals work' nodes signals (Err e)
   unfolding ◌>>=◌
-  read-refused {n} {p} e =
-      let r : conversion text number work nodes signals ≡ Refused n p = after-reading (Refused n p) (refused read.yields e) in
+  read-refused {e} h =
+      let r : conversion text number work nodes signals ≡ Refused e.number e.place = after-reading (Refused e.number e.place) (refused read.yields h) in
       converts text number
       (record {
-        answer = ap says e ∙ ap told (sym r);
+        answer = ap told (sym r);
         nodes_left = ap (λ x. nodes_after x nodes) (sym r);
         signals_left = ap (λ x. signals_after x signals) (sym r);
         work_left = read.yields.work_left;
       })
 
   -- a text that is accepted
-  pub read_accepted : {n s : ℕ} → a ≡ Accepted n s → AtHand text number work nodes signals work' table' list' n s
+  pub read_accepted : {n s : ℕ} → a ≡ Ok (n, s) → AtHand text number work nodes signals work' table' list' n s
   unfolding ◌>>=◌
   read_accepted {n} {s} e =
       let t = accepted read.yields e in
@@ -96,20 +95,20 @@ module _ {text work nodes signals work' table list nodes' signals' : List ℕ} {
       (ap₂ (λ (t l : List ℕ). rewriting number t (room (length nodes) (length signals) (length l))) (sym g.handed) (sym g.listed) ∙ sym w.answer)
 
   -- a form that is refused
-  pub form-refused : {m p : ℕ} → b ≡ Answer.Refused m p → Converts text number work nodes signals work' nodes' signals' b
+  pub form-refused : {r : Refusal} → b ≡ Err r → Converts text number work nodes signals work' nodes' signals' (Err r)
   unfolding ◌>>=◌
-  form-refused {m} {p} e =
-      let r = told-refused (conversion text number work nodes signals) {n = m} {p = p} (sym (answered ∙ ap (λ (x : Answer). with_signals s (says x)) e)) in
+  form-refused {r} e =
+      let refuses = told-refused (conversion text number work nodes signals) {n = r.number} {p = r.place} (sym (answered ∙ ap (λ (x : Answer). with_signals s (says x)) e)) in
       converts text number
       (record {
-        answer = ap says e ∙ ap told (sym r);
-        nodes_left = w.nodes_left ∙ ap (λ (x : Answer). leaves (says x) (target number (take n table)) nodes) e ∙ ap (λ x. nodes_after x nodes) (sym r);
-        signals_left = w.signals_left ∙ ap (λ (x : Answer). list_left (says x) (take s list) signals) e ∙ ap (λ x. signals_after x signals) (sym r);
+        answer = ap told (sym refuses);
+        nodes_left = w.nodes_left ∙ ap (λ (x : Answer). leaves (says x) (target number (take n table)) nodes) e ∙ ap (λ x. nodes_after x nodes) (sym refuses);
+        signals_left = w.signals_left ∙ ap (λ (x : Answer). list_left (says x) (take s list) signals) e ∙ ap (λ x. signals_after x signals) (sym refuses);
         work_left = g.work_left;
       })
 
   -- a form that is accepted
-  module _ {m k : ℕ} (e : b ≡ Accepted m k) where
+  module _ {m k : ℕ} (e : b ≡ Ok (m, k)) where
     accepts : Done (record { nodes = m; signals = s }) ≡ told (conversion text number work nodes signals)
     unfolding ◌>>=◌
     accepts = sym (answered ∙ ap (λ (x : Answer). with_signals s (says x)) e)
@@ -123,7 +122,7 @@ module _ {text work nodes signals work' table list nodes' signals' : List ℕ} {
     form-is =
         ap (form number) (ap root g.handed ∙ table-root g.source.formula (text-small text g.source g.meaning) (text_few text g.source g.meaning))
 
-    pub form-accepted : Converts text number work nodes signals work' nodes' signals' (Accepted m s)
+    pub form-accepted : Converts text number work nodes signals work' nodes' signals' (Ok (m, s))
     form-accepted =
         converts text number
         (record {

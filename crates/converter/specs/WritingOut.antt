@@ -1,8 +1,7 @@
 -- What `write_out` promises, of any table and list: the form's nodes and the list in front of the lent buffers, or neither.
 use Rattle.std.specs.Prelude.{ℕ, ◌≡◌, List, ◌++◌, length, drop}
 use Rattle.node.specs.Result.{Result, Done, Refused, Counts}
-use Rattle.node.specs.Answer.{says}
-use Rattle.node.specs.declared.Answer.{Answer}
+use Rattle.node.specs.Answer.{Answer, says}
 use Rattle.rewriter.specs.Rewriting.{target, rewriting, leaves}
 use Rattle.converter.specs.Room.{room}
 

@@ -1,14 +1,13 @@
 -- What the rewriter leaves, with the list copied or not, is what `write_out` promises.
-use Rattle.std.specs.Prelude.{ℕ, ◌≤◌, ◌≡◌, refl, List, ◌++◌, length, take, drop}
+use Rattle.std.specs.Prelude.{ℕ, ◌≤◌, ◌≡◌, refl, List, ◌++◌, length, take, drop, Ok, Err}
 use Rattle.std.proofs.Common.{ap, ap₂, ◌∙◌, sym, append-nil, take-append-drop, length-take-le, zero-add, arith}
 use Rattle.std.proofs.Math.Seq.{paste, take-length, drop-length}
 use Rattle.node.specs.Ltl.{Formula}
-use Rattle.node.specs.Result.{Result, Refused, Counts}
+use Rattle.node.specs.Result.{Result, Counts}
 use Rattle.node.specs.Written.{nodes_of, count}
 use Rattle.node.proofs.WrittenLaws.{count_some}
-use Rattle.node.specs.Answer.{says}
-use Rattle.node.specs.declared.Answer.{Answer}
-use Rattle.node.specs.declared.Answer.TheVariants.{Accepted}
+use Rattle.node.specs.Answer.{Answer, says}
+use Rattle.node.specs.declared.Refusal.{Refusal}
 use Rattle.rewriter.specs.Rewriting.{target, rewriting, leaves}
 use Rattle.rewriter.specs.RewritingLaws.{accepts as rewriter-accepts}
 use Rattle.rewriter.specs.Promise.{Rewrites}
@@ -26,12 +25,11 @@ module _ (number : ℕ) (table list nodes signals : List ℕ) {end : ℕ} {out n
       back ∙ ap (λ (l : List ℕ). l ++ drop end nodes)
       (rewritten.buffer ∙ ap (λ (r : Result Counts). leaves r (target number table) (take end nodes)) (sym rewritten.answer ∙ ap says e))
 
-  pub out_refused : {m p : ℕ} → b ≡ Answer.Refused m p → WritesOut number table list nodes signals nodes' signals b
-  out_refused {m} {p} e =
-      rw e
+  pub out_refused : {r : Refusal} → b ≡ Err r → WritesOut number table list nodes signals nodes' signals (Err r)
+  out_refused e =
       (record { answer = sym (ap says e) ∙ answered; nodes_left = left e ∙ take-append-drop end nodes; signals_left = refl })
 
-  module _ {m k : ℕ} (e : b ≡ Accepted m k) where
+  module _ {m k : ℕ} (e : b ≡ Ok (m, k)) where
     pub list-fits : length list ≤ length signals
     list-fits =
         let a = rewriter-accepts (room (length nodes) (length signals) (length list)) (sym answered ∙ ap says e) in
@@ -41,10 +39,9 @@ module _ (number : ℕ) (table list nodes signals : List ℕ) {end : ℕ} {out n
     all : end ≡ length nodes
     all = lent.is ∙ room-all (length nodes) (length signals) (length list) list-fits
 
-    pub out-accepted : {signals' : List ℕ} → signals' ≡ paste signals 0 list (length list) → WritesOut number table list nodes signals nodes' signals' b
+    pub out-accepted : {signals' : List ℕ} → signals' ≡ paste signals 0 list (length list) → WritesOut number table list nodes signals nodes' signals' (Ok (m, k))
     out-accepted copied =
         let f : Formula = target number table in
-        rw e
         (record {
           answer = sym (ap says e) ∙ answered;
           nodes_left = left e

@@ -27,12 +27,9 @@ fn write_out(
     ensures { WritesOut form table.now list.now nodes.old signals.old nodes.new signals.new result }
 {
     let end = room(nodes.len(), signals.len(), list.len());
-    let rewritten = rewriter::rewrite(table, form, &mut nodes[..end]);
-    let Answer::Accepted(_, _) = rewritten else {
-        return rewritten;
-    };
+    let rewritten = rewriter::rewrite(table, form, &mut nodes[..end])?;
     copy_words(list, list.len(), signals);
-    rewritten
+    Ok(rewritten)
 }
 
 // Reads the text, and writes its formula in a form to the front of `nodes` and its signal list to the front of `signals`. Accepted with the form's nodes and the
@@ -48,15 +45,9 @@ pub fn convert(
 {
     let mut table: [u32; MAX_NODES] = [0; MAX_NODES];
     let mut list: [u32; MAX_SIGNALS] = [0; MAX_SIGNALS];
-    let read = reader::read(text, work, &mut table, &mut list);
-    let Answer::Accepted(count, listed) = read else {
-        return read;
-    };
+    let (count, listed) = reader::read(text, work, &mut table, &mut list)?;
     let n = count as usize;
     let s = listed as usize;
-    let written = write_out(&table[..n], form, &list[..s], nodes, signals);
-    let Answer::Accepted(size, _) = written else {
-        return written;
-    };
-    Answer::Accepted(size, listed)
+    let (size, _) = write_out(&table[..n], form, &list[..s], nodes, signals)?;
+    Ok((size, listed))
 }

@@ -1,8 +1,12 @@
 -- From the stages' answers to the answer of the whole.
-use Rattle.std.specs.Prelude.{ℕ, ◌≤◌, List, [], ◌≡◌, length, get_or}
+use Rattle.std.specs.Prelude.{ℕ, ◌≤◌, List, [], ◌≡◌, length, get_or, Ok, Err}
 use Rattle.std.proofs.Common.{sym, ◌∙◌, subst}
 use Rattle.node.specs.Result.{Result, Done, Refused}
 use Rattle.node.proofs.ResultLaws.{bind_to, bind_refused}
+use Rattle.node.specs.Returned.{Returned}
+use Rattle.node.specs.declared.Refusal.{Refusal}
+use Rattle.declarations.specs.declared.turns.Sized.{Sized}
+use Rattle.declarations.specs.declared.evaluate.Names.{Names}
 use Rattle.language.specs.Limits.{max_names, max_signals}
 use Rattle.language.specs.Tokens.{Token, tokens}
 use Rattle.language.specs.Tree.{Spec}
@@ -10,17 +14,14 @@ use Rattle.language.specs.DeclaredNames.{Table, Port, constants, Declarations, d
 use Rattle.language.specs.Numbering.{in_order, first_of}
 use Rattle.language.proofs.Laws.Basics.Lists.{All}
 use Rattle.language.proofs.Laws.Basics.Results.{value_of}
-use Rattle.sets.specs.declared.Worked.{Worked}
 use Rattle.notes.specs.NotesLaws.{notes_ported}
 use Rattle.notes.specs.FirstTable.{first_table}
 use Rattle.ports.specs.Ports.{Ported, Room as ListRoom}
 use Rattle.ports.specs.Listing.{Lists}
-use Rattle.ports.specs.declared.Signals.{Signals}
-use Rattle.ports.specs.declared.Signals.TheVariants.{Listed, TooMany}
+use Rattle.ports.specs.Signals.{Signals}
 use Rattle.memory_notes.specs.Laid.{Laid}
 use Rattle.memory_notes.specs.ShortTableLaws.{short_first, short_constants}
 use Rattle.declarations.specs.declared.Declarations.{Declarations as Answered}
-use Rattle.declarations.specs.declared.Declared.{Declared}
 use Rattle.declarations.specs.Expressions.{MemoryRoom, Room}
 use Rattle.declarations.specs.Constants.{ConstantsTold}
 use Rattle.declarations.specs.Describing.{Described}
@@ -31,52 +32,55 @@ use Rattle.declarations.specs.Final.{sizings, number_of}
 use Rattle.declarations.specs.FinalPorts.{inputs_are, ports-are, ports-ported, ports-noted, list-room, firsts-are}
 
 -- a refusal, handed up
-pub stopped : {text w : List ℕ} {entries : ℕ} {x : Spec} {mem table list list' : List ℕ} {r : Answered} {n p : ℕ} → r.answer ≡ Declared.Refused n p → declarations x ≡ Result.Refused n p
+pub stopped : {text w : List ℕ} {entries : ℕ} {x : Spec} {mem table list list' : List ℕ} {r : Returned Answered} {u : Refusal} → r ≡ Err u → declarations x ≡ Result.Refused u.number u.place
     → Declares text w entries x mem table list list' r
 stopped {text} {w} {entries} {x} {mem} {table} {list} {list'} {r} e h =
-    record { answer = subst (Answer text w entries x mem table r.order r.enumerations r.firsts list list') (sym e) h }
+    record { answer = subst (Answer text w entries x mem table list list') (sym e) h }
 
-module _ {text w refs found : List ℕ} {entries names : ℕ} {x : Spec} (k : Checked text w refs found entries names x) {sorts numbers : List ℕ} {v : Worked}
-    (f : ConstantsTold text w x (first_table x) sorts numbers v) where
+module _ {text w refs found : List ℕ} {entries names : ℕ} {x : Spec} (k : Checked text w refs found entries names x) {v : Returned Names}
+    (f : ConstantsTold text w x (first_table x) v) where
   -- a refusal among parameters
-  pub constants-refused : {n p : ℕ} → v ≡ Worked.Refused n p → declarations x ≡ Result.Refused n p
-  constants-refused {n} {p} q =
-      let g : ConstantsTold text w x (first_table x) sorts numbers (Worked.Refused n p) = subst (ConstantsTold text w x (first_table x) sorts numbers) q f in
-      bind_refused (constants x.parameters (first_table x)) n p (sized_all x) g.told
+  pub constants-refused : {u : Refusal} → v ≡ Err u → declarations x ≡ Result.Refused u.number u.place
+  constants-refused {u} q =
+      let g : ConstantsTold text w x (first_table x) (Err u) = subst (ConstantsTold text w x (first_table x)) q f in
+      bind_refused (constants x.parameters (first_table x)) u.number u.place (sized_all x) g.told
 
   -- behind the parameters
-  module _ {n : ℕ} (q : v ≡ Worked.Value n) {places order enumerations offsets : List ℕ} {ins count : ℕ} (p : PortsPlaced k.tree places ins count)
+  module _ {a : Names} (q : v ≡ Ok a) {places order enumerations offsets : List ℕ} {ins count : ℕ} (p : PortsPlaced k.tree places ins count)
       (h : Described w refs found places count order enumerations offsets) where
-    pub constant : ConstantsTold text w x (first_table x) sorts numbers (Worked.Value n)
-    constant = subst (ConstantsTold text w x (first_table x) sorts numbers) q f
+    pub constant : ConstantsTold text w x (first_table x) (Ok a)
+    constant = subst (ConstantsTold text w x (first_table x)) q f
 
     unfoldable pub table_after : Table
     table_after = constant.told.0
 
-    pub sizings-after : Sizings text w refs found entries names places enumerations ins count sorts numbers x table_after
+    pub sizings-after : Sizings text w refs found entries names places enumerations ins count a.sorts a.numbers x table_after
     unfolding table_after
     sizings-after =
-        sizings k.tree places enumerations order offsets ins count sorts numbers constant.told.0 k.regular
+        sizings k.tree places enumerations order offsets ins count a.sorts a.numbers constant.told.0 k.regular
         (value_of constant.told.1 (short_constants x.parameters (first_table x) (short_first x k.regular))) constant.told.2 p h
 
     unrolled : declarations x ≡ sized_all x table_after
     unfolding table_after
     unrolled = bind_to (constants x.parameters (first_table x)) constant.told.0 (sized_all x) constant.told.1
 
-    module _ {sorts' numbers' widths : List ℕ} {r : Worked} (s : (d : Table) → Sizings text w refs found entries names places enumerations ins count sorts numbers x d
-        → SizesTold text w x d ins sorts' numbers' widths r) where
-      told : SizesTold text w x table_after ins sorts' numbers' widths r
+    module _ {r : Returned Sized} (s : (d : Table) → Sizings text w refs found entries names places enumerations ins count a.sorts a.numbers x d
+        → SizesTold text w x d ins r) where
+      told : SizesTold text w x table_after ins r
       told = s table_after sizings-after
 
-      pub sizes-refused : {m i : ℕ} → r ≡ Worked.Refused m i → declarations x ≡ Result.Refused m i
-      sizes-refused {m} {i} e =
-          let g : SizesTold text w x table_after ins sorts' numbers' widths (Worked.Refused m i) = subst (SizesTold text w x table_after ins sorts' numbers' widths) e told in
+      pub sizes-refused : {u : Refusal} → r ≡ Err u → declarations x ≡ Result.Refused u.number u.place
+      sizes-refused {u} e =
+          let g : SizesTold text w x table_after ins (Err u) = subst (SizesTold text w x table_after ins) e told in
           unrolled ∙ g.told
 
       -- behind the widths
-      module _ {m : ℕ} (e : r ≡ Worked.Value m) where
-        sized : SizesTold text w x table_after ins sorts' numbers' widths (Worked.Value m)
-        sized = subst (SizesTold text w x table_after ins sorts' numbers' widths) e told
+      module _ {b : Sized} (e : r ≡ Ok b) where
+        sized : SizesTold text w x table_after ins (Ok b)
+        sized = subst (SizesTold text w x table_after ins) e told
+
+        abbrev widths : List ℕ
+        widths = b.widths
 
         abbrev D : Declarations
         D = sized.told.0
@@ -84,14 +88,14 @@ module _ {text w refs found : List ℕ} {entries names : ℕ} {x : Spec} (k : Ch
         is : declarations x ≡ Done D
         is = unrolled ∙ sized.told.1
 
-        pub closing-room : {firsts list : List ℕ} → max_names ≤ length order → max_names ≤ length offsets → max_names ≤ length widths → max_names ≤ length firsts → max_signals ≤ length list
-            → ListRoom order offsets widths count firsts list
-        closing-room {firsts} {list} a b c d l =
-            list-room k.tree places order enumerations offsets widths ins count p h D is sized.told.3 sized.told.4 firsts list a b c d l
+        pub closing-room : {firsts list : List ℕ} → max_names ≤ length order → max_names ≤ length offsets → max_names ≤ length b.widths → max_names ≤ length firsts → max_signals ≤ length list
+            → ListRoom order offsets b.widths count firsts list
+        closing-room {firsts} {list} i j m n l =
+            list-room k.tree places order enumerations offsets widths ins count p h D is sized.told.3 sized.told.4 firsts list i j m n l
 
         signals-told : (signals : Signals) (firsts list firsts' list' : List ℕ) → max_names ≤ length firsts → Lists (number_of k.tree) (in_order D) signals firsts list firsts' list'
             → SignalsAre x (in_order D) firsts' list list' signals
-        signals-told (Listed i) firsts list firsts' list' room l = (
+        signals-told (Ok i) firsts list firsts' list' room l = (
           l.says.0,
           (
             l.says.1.0,
@@ -102,18 +106,18 @@ module _ {text w refs found : List ℕ} {entries names : ℕ} {x : Spec} (k : Ch
             ),
           ),
         )
-        signals-told (TooMany i) firsts list firsts' list' room l = l.says
+        signals-told (Err i) firsts list firsts' list' room l = l.says
 
         pub closing : {signals : Signals} {firsts list firsts' list' mem table : List ℕ} → max_names ≤ length firsts
-            → ((R : Token → ℕ) (ps : List Port) → Ported R order offsets widths ins count ps → Lists R ps signals firsts list firsts' list') → Laid mem sorts' numbers' firsts'
+            → ((R : Token → ℕ) (ps : List Port) → Ported R order offsets b.widths ins count ps → Lists R ps signals firsts list firsts' list') → Laid mem b.names.sorts b.names.numbers firsts'
             → MemoryRoom mem table entries → WorkedOut text w entries x mem table order enumerations firsts' list list' count ins signals
         closing {signals} {firsts} {list} {firsts'} {list'} room l laid fits =
             let t = k.tree in
             record {
               result = D;
               is = is;
-              sorts = sorts';
-              numbers = numbers';
+              sorts = b.names.sorts;
+              numbers = b.names.numbers;
               notes = notes_ported x (tokens text) w D.table [] (in_order D) sized.told.2;
               laid = laid;
               room = fits;
@@ -126,10 +130,10 @@ module _ {text w refs found : List ℕ} {entries names : ℕ} {x : Spec} (k : Ch
             }
 
 -- what the turns ask for
-pub sizes_given : {text w refs found : List ℕ} {entries names : ℕ} (g : Given text w refs found entries names) {sorts numbers mem table : List ℕ} {v : Worked} {n : ℕ}
-    → ConstantsTold text w g.x (first_table g.x) sorts numbers v → v ≡ Worked.Value n → {places order enumerations offsets : List ℕ} {ins count : ℕ}
-    → PortsPlaced g.checked.tree places ins count → Described w refs found places count order enumerations offsets → Room refs sorts numbers mem table entries
-    → SizesGiven text w refs places enumerations ins count sorts numbers mem table entries
+pub sizes_given : {text w refs found : List ℕ} {entries names : ℕ} (g : Given text w refs found entries names) {mem table : List ℕ} {v : Returned Names} {a : Names}
+    → ConstantsTold text w g.x (first_table g.x) v → v ≡ Ok a → {places order enumerations offsets : List ℕ} {ins count : ℕ}
+    → PortsPlaced g.checked.tree places ins count → Described w refs found places count order enumerations offsets → Room refs a.sorts a.numbers mem table entries
+    → SizesGiven text w refs places enumerations ins count a.sorts a.numbers mem table entries
 sizes_given {found = found} {names = names} g f q p h room =
     record {
       found = found;

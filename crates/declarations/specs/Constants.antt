@@ -1,12 +1,12 @@
 -- Parameters, worked out in order: each changes the table, and its own note.
-use Rattle.std.specs.Prelude.{ℕ, ◌≤◌, List, [], ◌≡◌, length}
+use Rattle.std.specs.Prelude.{ℕ, ◌≤◌, List, [], ◌≡◌, length, Ok, Err}
 use Rattle.node.specs.Result.{Result, Done, Refused}
+use Rattle.node.specs.Returned.{Returned}
+use Rattle.declarations.specs.declared.evaluate.Names.{Names}
 use Rattle.language.specs.Limits.{max_names}
 use Rattle.language.specs.Tokens.{tokens}
 use Rattle.language.specs.Tree.{Spec}
-use Rattle.language.specs.Values.{Value}
 use Rattle.language.specs.DeclaredNames.{Table, constants}
-use Rattle.sets.specs.declared.Worked.{Worked}
 use Rattle.name_values.specs.Worked.{world_in}
 use Rattle.notes.specs.Notes.{Notes}
 use Rattle.notes.specs.Owned.{ParameterAt}
@@ -34,9 +34,9 @@ pub record ParametersGiven (text w refs order : List ℕ) (count : ℕ) (sorts n
   pub few : count ≤ max_names
 
 -- the answer
-abbrev pub Constants : List ℕ → List ℕ → Spec → Table → (sorts numbers : List ℕ) → Worked → Type 0
-Constants text w x d sorts numbers (Worked.Value n) = (t : Table) × (constants x.parameters d ≡ Done t) × Notes (tokens text) w (world_in x [] t) sorts numbers
-Constants text w x d sorts numbers (Worked.Refused n p) = constants x.parameters d ≡ Result.Refused n p
+abbrev pub Constants : List ℕ → List ℕ → Spec → Table → Returned Names → Type 0
+Constants text w x d (Ok a) = (t : Table) × (constants x.parameters d ≡ Done t) × Notes (tokens text) w (world_in x [] t) a.sorts a.numbers
+Constants text w x d (Err r) = constants x.parameters d ≡ Result.Refused r.number r.place
 
-pub record ConstantsTold (text w : List ℕ) (x : Spec) (d : Table) (sorts numbers : List ℕ) (r : Worked) : Type 0 where
-  pub told : Constants text w x d sorts numbers r
+pub record ConstantsTold (text w : List ℕ) (x : Spec) (d : Table) (r : Returned Names) : Type 0 where
+  pub told : Constants text w x d r

@@ -1,18 +1,19 @@
 -- Parameters worked out one after the other.
-use Rattle.std.specs.Prelude.{ℕ, suc, ◌+◌, ◌-◌, ◌≤◌, ◌<◌, List, [], ◌∷◌, ◌≡◌, refl, length, get_or, set}
+use Rattle.std.specs.Prelude.{ℕ, suc, ◌+◌, ◌-◌, ◌≤◌, ◌<◌, List, [], ◌∷◌, ◌≡◌, refl, length, get_or, set, Ok, Err}
 use Rattle.std.proofs.Common.{sym, ap, ◌∙◌, subst, add-one, arith}
-use Rattle.node.specs.Result.{Done, Refused, ◌>>=◌}
+use Rattle.node.specs.Result.{Done, ◌>>=◌}
 use Rattle.node.proofs.ResultLaws.{bind_to, bind_refused}
+use Rattle.node.specs.Returned.{Returned}
+use Rattle.node.specs.declared.Refusal.{Refusal}
 use Rattle.language.specs.Limits.{max_names, max_tokens}
 use Rattle.language.specs.Tokens.{tokens}
 use Rattle.language.specs.Tree.{Parameter, Spec}
-use Rattle.language.specs.Values.{Value, number, value}
+use Rattle.language.specs.Values.{number, value}
 use Rattle.language.specs.DeclaredNames.{Constant, Table, declared, constants}
 use Rattle.language.specs.Expansion.{context_of}
 use Rattle.names.specs.References.{number_in}
 use Rattle.names.specs.Resolved.{declared_names}
 use Rattle.sets.specs.Answers.{says}
-use Rattle.sets.specs.declared.Worked.{Worked}
 use Rattle.name_values.specs.Sorts as Sort
 use Rattle.name_values.specs.Worked.{world_in}
 use Rattle.operands.specs.Working.{TellsNumber}
@@ -87,26 +88,26 @@ module _ (text w refs found : List ℕ) (entries names : ℕ) (order : List ℕ)
     unrolled : constants x.parameters d ≡ (value (declared g.table) next.own.value >>= number >>= λ n. constants next.later ((next.own.name.text, Constant n) ∷ g.table))
     unrolled = g.same ∙ ap (λ l. constants l g.table) next.is
 
-    abbrev Tells : Worked → Type 0
+    abbrev Tells : Returned ℕ → Type 0
     Tells r = TellsNumber r (value (declared g.table) next.own.value)
 
     -- as it is worked out, at entry k
-    pub next-told : {table table' : List ℕ} (k : ℕ) (r : Worked) → k ≡ get_or order j 0 - 1 → Numbered text w refs sorts numbers table table' k r → Tells r
+    pub next-told : {table table' : List ℕ} (k : ℕ) (r : Returned ℕ) → k ≡ get_or order j 0 - 1 → Numbered text w refs sorts numbers table table' k r → Tells r
     next-told k r q f =
         let R = tree-realm g.tree g.table g.short in
         let c = context_of [] g.table in
         f.tells R c next.own.value (subst (λ (i : ℕ). Expression text w refs sorts numbers i R c next.own.value) (sym q) next-expression)
 
-    turning-refused : (n p : ℕ) → TellsNumber (Worked.Refused n p) (value (declared g.table) next.own.value) → ConstantsTold text w x d sorts numbers (Worked.Refused n p)
-    turning-refused n p h = record { told = unrolled ∙ bind_refused (value (declared g.table) next.own.value >>= number) n p _ (sym h.says) }
+    turning-refused : (f : Refusal) → TellsNumber (Err f) (value (declared g.table) next.own.value) → ConstantsTold text w x d (Err f)
+    turning-refused f h = record { told = unrolled ∙ bind_refused (value (declared g.table) next.own.value >>= number) f.number f.place _ (sym h.says) }
 
-    pub turning-stopped : (r : Worked) (n p : ℕ) → r ≡ Worked.Refused n p → Tells r → ConstantsTold text w x d sorts numbers r
-    turning-stopped r n p e h = subst (ConstantsTold text w x d sorts numbers) (sym e) (turning-refused n p (subst Tells e h))
+    pub turning-stopped : (r : Returned ℕ) (f : Refusal) → r ≡ Err f → Tells r → ConstantsTold text w x d (Err f)
+    turning-stopped r f e h = turning-refused f (subst Tells e h)
 
-    pub turning-more : (v : Worked) (r n : ℕ) → v ≡ Worked.Value n → r ≡ get_or refs (get_or order j 0) 0 → max_names ≤ length sorts → max_names ≤ length numbers → Tells v
+    pub turning-more : (v : Returned ℕ) (r n : ℕ) → v ≡ Ok n → r ≡ get_or refs (get_or order j 0) 0 → max_names ≤ length sorts → max_names ≤ length numbers → Tells v
         → Turning (j + 1) (set sorts r Sort.number) (set numbers r n)
     turning-more v r n u e a b t =
-        let h : Tells (Worked.Value n) = subst Tells u t in
+        let h : Tells (Ok n) = subst Tells u t in
         let q = e ∙ next_number_lem in
         let s = next_small in
         let k = number_small g.tree next.own.name next.turnable.shown in
@@ -124,8 +125,8 @@ module _ (text w refs found : List ℕ) (entries names : ℕ) (order : List ℕ)
               numbers Sort.number n (omega arith) (omega arith) (refl, (refl, h.small)) g.notes);
         })
 
-  pub turning-all : (j : ℕ) (sorts numbers : List ℕ) (n : ℕ) → count ≤ j → Turning j sorts numbers → ConstantsTold text w x d sorts numbers (Worked.Value n)
-  turning-all j sorts numbers n l g = record { told = (g.table, end g.left g.total g.same, g.notes) }
+  pub turning-all : (j : ℕ) (sorts numbers : List ℕ) → count ≤ j → Turning j sorts numbers → ConstantsTold text w x d (Ok (record { sorts = sorts; numbers = numbers }))
+  turning-all j sorts numbers l g = record { told = (g.table, end g.left g.total g.same, g.notes) }
     where
       end : (left : List Parameter) → j + length left ≡ count → constants x.parameters d ≡ constants left g.table → constants x.parameters d ≡ Done g.table
       end [] t e = e

@@ -1,10 +1,12 @@
 -- The loop over parameters, whichever tree it is: those from position j on are still to be worked out.
-use Rattle.std.specs.Prelude.{ℕ, ◌+◌, ◌-◌, ◌≤◌, ◌<◌, List, ◌≡◌, length, get_or, set}
+use Rattle.std.specs.Prelude.{ℕ, ◌+◌, ◌-◌, ◌≤◌, ◌<◌, List, ◌≡◌, length, get_or, set, Ok, Err}
+use Rattle.node.specs.Returned.{Returned}
+use Rattle.node.specs.declared.Refusal.{Refusal}
+use Rattle.declarations.specs.declared.evaluate.Names.{Names}
 use Rattle.std.proofs.Common.{sym, ap, ◌∙◌, subst, arith}
 use Rattle.language.specs.Limits.{max_names, max_tokens}
 use Rattle.language.specs.Tree.{Spec}
 use Rattle.language.specs.DeclaredNames.{Table}
-use Rattle.sets.specs.declared.Worked.{Worked}
 use Rattle.name_values.specs.Sorts as Sort
 use Rattle.declarations.specs.Expressions.{Room, Workable, Numbered}
 use Rattle.declarations.specs.Constants.{Parameters, ParametersGiven, ConstantsTold}
@@ -37,15 +39,15 @@ module _ {text w refs order : List ℕ} {count entries : ℕ} {sorts₀ numbers�
           next-workable text w refs g.found entries g.names order count g.x g.d j sorts numbers inside at_turn i (e ∙ ap (λ (n : ℕ). n - 1) q) r
 
     -- what its expression comes to
-    module _ (inside : j < count) {table table' : List ℕ} {k i : ℕ} {v : Worked} (q : k ≡ get_or order j 0) (e : i ≡ k - 1) (f : Numbered text w refs sorts numbers table table' i v) where
-      pub looping-stopped : {n p : ℕ} → v ≡ Worked.Refused n p → (found : List ℕ) (names : ℕ) (x : Spec) (d : Table) → Parameters text w refs found entries names order count sorts₀ numbers₀ x d
-          → ConstantsTold text w x d sorts numbers v
-      looping-stopped {n} {p} u found names x d h =
+    module _ (inside : j < count) {table table' : List ℕ} {k i : ℕ} {v : Returned ℕ} (q : k ≡ get_or order j 0) (e : i ≡ k - 1) (f : Numbered text w refs sorts numbers table table' i v) where
+      pub looping-stopped : {a : Returned Names} {u : Refusal} → v ≡ Err u → a ≡ Err u → (found : List ℕ) (names : ℕ) (x : Spec) (d : Table) → Parameters text w refs found entries names order count sorts₀ numbers₀ x d
+          → ConstantsTold text w x d a
+      looping-stopped {a} {u} s z found names x d h =
           let t = l.turning found names x d h in
-          turning-stopped text w refs found entries names order count x d j sorts numbers inside t v n p u
-          (next-told text w refs found entries names order count x d j sorts numbers inside t i v (e ∙ ap (λ (n : ℕ). n - 1) q) f)
+          subst (ConstantsTold text w x d) (sym z) (turning-stopped text w refs found entries names order count x d j sorts numbers inside t v u s
+          (next-told text w refs found entries names order count x d j sorts numbers inside t i v (e ∙ ap (λ (n : ℕ). n - 1) q) f))
 
-      pub looping-more : {r n : ℕ} → v ≡ Worked.Value n → r ≡ get_or refs k 0 → max_names ≤ length sorts → max_names ≤ length numbers
+      pub looping-more : {r n : ℕ} → v ≡ Ok n → r ≡ get_or refs k 0 → max_names ≤ length sorts → max_names ≤ length numbers
           → Looping text w refs order count entries sorts₀ numbers₀ (j + 1) (set sorts r Sort.number) (set numbers r n)
       looping-more {r} {n} u s a b = record {
         turning = λ found names x d h.
@@ -54,6 +56,6 @@ module _ {text w refs order : List ℕ} {count entries : ℕ} {sorts₀ numbers�
             (next-told text w refs found entries names order count x d j sorts numbers inside t i v (e ∙ ap (λ (n : ℕ). n - 1) q) f);
       }
 
-    pub looping-all : count ≤ j → (n : ℕ) (found : List ℕ) (names : ℕ) (x : Spec) (d : Table) → Parameters text w refs found entries names order count sorts₀ numbers₀ x d
-        → ConstantsTold text w x d sorts numbers (Worked.Value n)
-    looping-all a n found names x d h = turning-all text w refs found entries names order count x d j sorts numbers n a (l.turning found names x d h)
+    pub looping-all : count ≤ j → (found : List ℕ) (names : ℕ) (x : Spec) (d : Table) → Parameters text w refs found entries names order count sorts₀ numbers₀ x d
+        → ConstantsTold text w x d (Ok (record { sorts = sorts; numbers = numbers }))
+    looping-all a found names x d h = turning-all text w refs found entries names order count x d j sorts numbers a (l.turning found names x d h)

@@ -2,9 +2,9 @@
 use Rattle.std.specs.Prelude.{ℕ, suc, List, ◌≡◌, refl, length}
 use Rattle.std.proofs.Common.{ap, ◌∙◌, arith}
 use Rattle.node.specs.Limits.{max_nodes}
+use Rattle.node.specs.Returned.{Returned}
 use Rattle.language.specs.Tree.{Expr}
 use Rattle.language.specs.Expansion.{Context}
-use Rattle.sets.specs.declared.Worked.{Worked}
 use Rattle.operands.specs.Working.{source}
 use Rattle.machine.specs.Realm.{Realm}
 use Rattle.machine_run.specs.Running.{regions_of, Given, Runnable, NumberTold}
@@ -61,6 +61,6 @@ module _ {text w refs sorts numbers mem mem' table firsts : List ℕ} {entries :
         given = expression-given h.R h.c h.e h.expression;
       }
 
-  pub told-numbered : {k : ℕ} {mem'' table'' : List ℕ} {r : Worked} → NumberTold (source text w refs) mem' mem'' table table'' entries k (suc max_nodes) r
+  pub told-numbered : {k : ℕ} {mem'' table'' : List ℕ} {r : Returned ℕ} → NumberTold (source text w refs) mem' mem'' table table'' entries k (suc max_nodes) r
       → Numbered text w refs sorts numbers table table'' k r
   told-numbered t = record { same = λ n e. ap length (t.same n e); tells = λ R c e x. t.tells R c e (expression-given R c e x) }

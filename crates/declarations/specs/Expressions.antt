@@ -1,13 +1,14 @@
 -- An expression that is worked out with what is noted of the names at that time. The notes are laid anew for each, so that nothing kept for it outlives a change of
 -- the table.
-use Rattle.std.specs.Prelude.{ℕ, ◌+◌, ◌≤◌, ◌<◌, List, [], ◌≡◌, length}
+use Rattle.std.specs.Prelude.{ℕ, ◌+◌, ◌≤◌, ◌<◌, List, [], ◌≡◌, length, Ok}
 use Rattle.node.specs.Limits.{max_nodes}
+use Rattle.node.specs.Returned.{Returned}
+use Rattle.declarations.specs.declared.evaluate.Names.{Names}
 use Rattle.language.specs.Limits.{max_names, max_tokens}
 use Rattle.language.specs.Tokens.{tokens}
 use Rattle.language.specs.Tree.{Expr}
 use Rattle.language.specs.Values.{value}
 use Rattle.language.specs.Expansion.{Context}
-use Rattle.sets.specs.declared.Worked.{Worked}
 use Rattle.operands.specs.Working.{source, TellsNumber}
 use Rattle.notes.specs.Notes.{Notes}
 use Rattle.machine.specs.Memory.{frame_words, reserve, spare, first_kept}
@@ -44,16 +45,16 @@ pub record Workable (text w refs sorts numbers mem table : List ℕ) (entries k 
   pub inside : k < entries
 
 -- the table has its length where a value is answered
-abbrev pub LengthKept : List ℕ → List ℕ → Worked → Type 0
-LengthKept table table' r = (n : ℕ) → r ≡ Worked.Value n → length table' ≡ length table
+abbrev pub LengthKept : {A : Type 0} → List ℕ → List ℕ → Returned A → Type 0
+LengthKept {A} table table' r = (a : A) → r ≡ Ok a → length table' ≡ length table
 
 -- and the notes have theirs
-pub record Lengths (table table' sorts numbers : List ℕ) (r : Worked) : Type 0 where
+pub record Lengths (table table' : List ℕ) (r : Returned Names) : Type 0 where
   pub table_kept : LengthKept table table' r
-  pub sorts_full : length sorts ≡ max_names
-  pub numbers_full : length numbers ≡ max_names
+  pub sorts_full : (a : Names) → r ≡ Ok a → length a.sorts ≡ max_names
+  pub numbers_full : (a : Names) → r ≡ Ok a → length a.numbers ≡ max_names
 
 -- of whatever expression stands there, the number that it is
-pub record Numbered (text w refs sorts numbers table table' : List ℕ) (k : ℕ) (r : Worked) : Type 0 where
+pub record Numbered (text w refs sorts numbers table table' : List ℕ) (k : ℕ) (r : Returned ℕ) : Type 0 where
   pub same : LengthKept table table' r
   pub tells : (R : Realm (source text w refs)) (c : Context) (e : Expr) → Expression text w refs sorts numbers k R c e → TellsNumber r (value c.values e)

@@ -28,3 +28,4 @@ pub mod Promise
 pub mod Final
 pub mod FinalPorts
 pub mod Closing
+pub mod LengthLaws

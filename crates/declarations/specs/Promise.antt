@@ -1,8 +1,9 @@
 -- What `declare` promises: a text's declarations, worked out.
-use Rattle.std.specs.Prelude.{ℕ, suc, ◌≤◌, true, List, [], ◌∷◌, ◌≡◌, length, get_or}
+use Rattle.std.specs.Prelude.{ℕ, suc, ◌≤◌, true, List, [], ◌∷◌, ◌≡◌, length, get_or, Ok, Err}
 use Rattle.std.proofs.Math.Option.{none, some}
 use Rattle.std.proofs.lemmas.List.Edits.{sets}
 use Rattle.node.specs.Result.{Result, Done}
+use Rattle.node.specs.Returned.{Returned}
 use Rattle.language.specs.Limits.{max_tokens, max_names}
 use Rattle.language.specs.Tokens.{tokens}
 use Rattle.language.specs.Grammar.{Tokens}
@@ -17,11 +18,8 @@ use Rattle.names.specs.Resolved.{declared_names}
 use Rattle.name_values.specs.Worked.{world_in}
 use Rattle.notes.specs.Notes.{Notes}
 use Rattle.memory_notes.specs.Laid.{Laid}
-use Rattle.ports.specs.declared.Signals.{Signals}
-use Rattle.ports.specs.declared.Signals.TheVariants.{Listed, TooMany}
+use Rattle.ports.specs.Signals.{Signals}
 use Rattle.declarations.specs.declared.Declarations.{Declarations as Answered}
-use Rattle.declarations.specs.declared.Declared.{Declared}
-use Rattle.declarations.specs.declared.Declared.TheVariants.{Ports}
 use Rattle.declarations.specs.Trees.{Tree}
 use Rattle.declarations.specs.Expressions.{MemoryRoom}
 use Rattle.declarations.specs.Enumerations.{Enumerates}
@@ -49,10 +47,10 @@ PortsNoted x ts w order enumerations j (p ∷ ps) = PortNoted x ts w order enume
 
 -- the signals: how many there are, their list and the number of each name's first; or the place of 15
 abbrev pub SignalsAre : Spec → List Port → (firsts list list' : List ℕ) → Signals → Type 0
-SignalsAre x ps firsts list list' (Listed n) =
+SignalsAre x ps firsts list list' (Ok n) =
     (too_many_signals 0 ps ≡ none) × ((n ≡ length (signal_list ps)) ×
     ((list' ≡ sets list 0 (signal_list ps)) × All (λ p. get_or firsts (number_in (declared_names x) p.name) 0 ≡ first_of ps p.name.text) ps))
-SignalsAre x ps firsts list list' (TooMany place) = too_many_signals 0 ps ≡ some place
+SignalsAre x ps firsts list list' (Err e) = too_many_signals 0 ps ≡ some e.place
 
 -- the notes are laid, for the signals' order that the text has
 pub record WorkedOut (text w : List ℕ) (entries : ℕ) (x : Spec) (mem table order enumerations firsts list list' : List ℕ) (count ins : ℕ) (signals : Signals) : Type 0 where
@@ -69,10 +67,9 @@ pub record WorkedOut (text w : List ℕ) (entries : ℕ) (x : Spec) (mem table o
   pub noted : PortsNoted x (tokens text) w order enumerations 0 (in_order result)
   pub listed : SignalsAre x (in_order result) firsts list list' signals
 
-abbrev pub Answer : List ℕ → List ℕ → ℕ → Spec → (mem table order enumerations firsts list list' : List ℕ) → Declared → Type 0
-Answer text w entries x mem table order enumerations firsts list list' (Ports count ins signals) =
-    WorkedOut text w entries x mem table order enumerations firsts list list' count ins signals
-Answer text w entries x mem table order enumerations firsts list list' (Declared.Refused n p) = declarations x ≡ Result.Refused n p
+abbrev pub Answer : List ℕ → List ℕ → ℕ → Spec → (mem table list list' : List ℕ) → Returned Answered → Type 0
+Answer text w entries x mem table list list' (Ok a) = WorkedOut text w entries x mem table a.order a.enumerations a.firsts list list' a.count a.ins a.listed
+Answer text w entries x mem table list list' (Err r) = declarations x ≡ Result.Refused r.number r.place
 
-pub record Declares (text w : List ℕ) (entries : ℕ) (x : Spec) (mem table list list' : List ℕ) (r : Answered) : Type 0 where
-  pub answer : Answer text w entries x mem table r.order r.enumerations r.firsts list list' r.answer
+pub record Declares (text w : List ℕ) (entries : ℕ) (x : Spec) (mem table list list' : List ℕ) (r : Returned Answered) : Type 0 where
+  pub answer : Answer text w entries x mem table list list' r

@@ -1,13 +1,14 @@
 -- Inputs are sized, then outputs.
-use Rattle.std.specs.Prelude.{ℕ, ◌+◌, ◌≤◌, true, false, List, [], ◌≡◌, length}
+use Rattle.std.specs.Prelude.{ℕ, ◌+◌, ◌≤◌, true, false, List, [], ◌≡◌, length, Ok, Err}
 use Rattle.node.specs.Result.{Result, Done, Refused, ◌>>=◌}
+use Rattle.node.specs.Returned.{Returned}
+use Rattle.declarations.specs.declared.turns.Sized.{Sized}
 use Rattle.language.specs.Limits.{max_names}
 use Rattle.language.specs.Tokens.{tokens}
 use Rattle.language.specs.Tree.{Spec}
 use Rattle.language.specs.DeclaredNames.{Table, turns, inputs, outputs, Declarations}
 use Rattle.language.specs.Lists.{All}
 use Rattle.language.specs.RegularWords.{RegularDefinition}
-use Rattle.sets.specs.declared.Worked.{Worked}
 use Rattle.name_values.specs.Worked.{world_in}
 use Rattle.notes.specs.Notes.{Notes}
 use Rattle.memory_notes.specs.ShortTables.{ShortTable}
@@ -42,10 +43,10 @@ sized_all x d =
     Done (record { table = o.table; inputs = i.ports; outputs = o.ports })
 
 -- the answer
-abbrev pub SizesAre : List ℕ → List ℕ → Spec → Table → ℕ → (sorts numbers widths : List ℕ) → Worked → Type 0
-SizesAre text w x d ins sorts numbers widths (Worked.Value n) =
-    (D : Declarations) × (sized_all x d ≡ Done D) × Notes (tokens text) w (world_in x [] D.table) sorts numbers × WidthsFrom widths 0 D.inputs × WidthsFrom widths ins D.outputs
-SizesAre text w x d ins sorts numbers widths (Worked.Refused n p) = sized_all x d ≡ Result.Refused n p
+abbrev pub SizesAre : List ℕ → List ℕ → Spec → Table → ℕ → Returned Sized → Type 0
+SizesAre text w x d ins (Ok a) =
+    (D : Declarations) × (sized_all x d ≡ Done D) × Notes (tokens text) w (world_in x [] D.table) a.names.sorts a.names.numbers × WidthsFrom a.widths 0 D.inputs × WidthsFrom a.widths ins D.outputs
+SizesAre text w x d ins (Err r) = sized_all x d ≡ Result.Refused r.number r.place
 
-pub record SizesTold (text w : List ℕ) (x : Spec) (d : Table) (ins : ℕ) (sorts numbers widths : List ℕ) (r : Worked) : Type 0 where
-  pub told : SizesAre text w x d ins sorts numbers widths r
+pub record SizesTold (text w : List ℕ) (x : Spec) (d : Table) (ins : ℕ) (r : Returned Sized) : Type 0 where
+  pub told : SizesAre text w x d ins r

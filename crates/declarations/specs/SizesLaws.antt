@@ -1,18 +1,20 @@
 -- The widths of inputs, then of outputs.
-use Rattle.std.specs.Prelude.{ℕ, suc, ◌+◌, ◌≤◌, Bool, List, [], ◌∷◌, ◌≡◌, refl}
+use Rattle.std.specs.Prelude.{ℕ, suc, ◌+◌, ◌≤◌, Bool, List, [], ◌∷◌, ◌≡◌, refl, Ok, Err}
 use Rattle.std.proofs.Math.Bool.{true, false}
 use Rattle.std.proofs.Common.{sym, ap, ◌∙◌, subst, arith}
 use Rattle.std.proofs.Math.ListN.{length}
-use Rattle.node.specs.Result.{Done, Refused, ◌>>=◌}
+use Rattle.node.specs.Result.{Done, ◌>>=◌}
 use Rattle.node.proofs.ResultLaws.{bind_to, bind_refused}
+use Rattle.node.specs.Returned.{Returned}
+use Rattle.node.specs.declared.Refusal.{Refusal}
+use Rattle.declarations.specs.declared.turns.Sized.{Sized}
 use Rattle.language.specs.Limits.{max_names}
 use Rattle.language.specs.Tree.{Definition, Declaration, Spec}
 use Rattle.language.specs.DeclaredNames.{Table, Port, as_declared, Turns, turns, inputs, outputs}
 use Rattle.language.proofs.Laws.Basics.Results.{done, bind, bind_any, value_of, Within}
-use Rattle.sets.specs.declared.Worked.{Worked}
 use Rattle.memory_notes.specs.ShortTableLaws.{short_turns}
 use Rattle.declarations.specs.Expressions.{Room}
-use Rattle.declarations.specs.Turns.{WidthsFrom, Declared, TurnsGiven, TurnsTold, Before}
+use Rattle.declarations.specs.Turns.{WidthsFrom, Declared, TurnsGiven, TurnsTold, Before, StayBefore}
 use Rattle.declarations.specs.Sizes.{Sizings, SizesGiven, sized_all, SizesTold}
 
 widths_kept : (old new : List ℕ) (n j : ℕ) (ps : List Port) → j + length ps ≤ n → Before n old new → WidthsFrom old j ps → WidthsFrom new j ps
@@ -32,29 +34,29 @@ module _ {text w refs found : List ℕ} {entries names : ℕ} {places enumeratio
   ins_declared = record { tree = h.tree; regular = h.regular; placed = h.ins_placed; total = (let t = h.ins_total in omega arith); short = h.short; notes = h.notes }
 
   -- the inputs' turns
-  module _ {sorts' numbers' widths' : List ℕ} {v : Worked} (f : (ds : List Declaration) (d : Table) → Declared text w refs found entries names places enumerations 0 ins sorts numbers x ds d
-      → TurnsTold text w x false ds d 0 sorts' numbers' widths' v) where
-    told : TurnsTold text w x false (inputs x.main) d 0 sorts' numbers' widths' v
+  module _ {v : Returned Sized} (f : (ds : List Declaration) (d : Table) → Declared text w refs found entries names places enumerations 0 ins sorts numbers x ds d
+      → TurnsTold text w x false ds d 0 v) where
+    told : TurnsTold text w x false (inputs x.main) d 0 v
     told = f (inputs x.main) d ins_declared
 
-    pub sizes-stopped : {n p : ℕ} → v ≡ Worked.Refused n p → SizesTold text w x d ins sorts' numbers' widths' v
-    sizes-stopped {n} {p} q =
-        let g : TurnsTold text w x false (inputs x.main) d 0 sorts' numbers' widths' (Worked.Refused n p) = subst (TurnsTold text w x false (inputs x.main) d 0 sorts' numbers' widths') q told in
-        subst (SizesTold text w x d ins sorts' numbers' widths') (sym q)
+    pub sizes-stopped : {r : Returned Sized} {u : Refusal} → v ≡ Err u → r ≡ Err u → SizesTold text w x d ins r
+    sizes-stopped {r} {u} q z =
+        let g : TurnsTold text w x false (inputs x.main) d 0 (Err u) = subst (TurnsTold text w x false (inputs x.main) d 0) q told in
+        subst (SizesTold text w x d ins) (sym z)
         (record {
-          told = bind_refused (turns x.definitions false (inputs x.main) d) n p
+          told = bind_refused (turns x.definitions false (inputs x.main) d) u.number u.place
               (λ i. turns x.definitions true (outputs x.main) i.table >>= λ o. Done (record { table = o.table; inputs = i.ports; outputs = o.ports })) g.told;
         })
 
     -- behind them
-    module _ {n : ℕ} (q : v ≡ Worked.Value n) where
-      pub first : TurnsTold text w x false (inputs x.main) d 0 sorts' numbers' widths' (Worked.Value n)
-      first = subst (TurnsTold text w x false (inputs x.main) d 0 sorts' numbers' widths') q told
+    module _ {a : Sized} (q : v ≡ Ok a) where
+      pub first : TurnsTold text w x false (inputs x.main) d 0 (Ok a)
+      first = subst (TurnsTold text w x false (inputs x.main) d 0) q told
 
       unfoldable pub after_inputs : Turns
       after_inputs = first.told.0
 
-      pub outs-declared : Declared text w refs found entries names places enumerations ins count sorts' numbers' x (outputs x.main) after_inputs.table
+      pub outs-declared : Declared text w refs found entries names places enumerations ins count a.names.sorts a.names.numbers x (outputs x.main) after_inputs.table
       unfolding after_inputs
       outs-declared = record {
         tree = h.tree;
@@ -70,35 +72,34 @@ module _ {text w refs found : List ℕ} {entries names : ℕ} {places enumeratio
       unrolled = bind_to (turns x.definitions false (inputs x.main) d) first.told.0
           (λ i. turns x.definitions true (outputs x.main) i.table >>= λ o. Done (record { table = o.table; inputs = i.ports; outputs = o.ports })) first.told.1
 
-      sized-outputs : (sorts'' numbers'' widths'' : List ℕ) (r : Worked) → Before ins widths' widths'' → TurnsTold text w x true (outputs x.main) after_inputs.table ins sorts'' numbers'' widths'' r
-          → SizesTold text w x d ins sorts'' numbers'' widths'' r
+      sized-outputs : (r : Returned Sized) → StayBefore ins a.widths r → TurnsTold text w x true (outputs x.main) after_inputs.table ins r → SizesTold text w x d ins r
       unfolding after_inputs
-      sized-outputs sorts'' numbers'' widths'' (Worked.Value m) b g =
+      sized-outputs (Ok c) b g =
           let o = g.told.0 in
-          let c = portsLength in
+          let k = portsLength in
           record {
             told = (
               record { table = o.table; inputs = after_inputs.ports; outputs = o.ports },
               unrolled ∙ bind_to (turns x.definitions true (outputs x.main) after_inputs.table) o (λ o. Done (record { table = o.table; inputs = after_inputs.ports; outputs = o.ports }))
                   g.told.1,
               g.told.2,
-              widths_kept widths' widths'' ins 0 after_inputs.ports (let t = h.ins_total in omega arith) b first.told.3,
+              widths_kept a.widths c.widths ins 0 after_inputs.ports (let t = h.ins_total in omega arith) (b c refl) first.told.3,
               g.told.3,
             );
           }
         where
           portsLength : length (inputs x.main) ≡ length first.told.0.ports
           portsLength = turns-length x.definitions false (inputs x.main) d first.told.0 first.told.1
-      sized-outputs sorts'' numbers'' widths'' (Worked.Refused m p) b g =
+      sized-outputs (Err u) b g =
           record {
-            told = unrolled ∙ bind_refused (turns x.definitions true (outputs x.main) after_inputs.table) m p
+            told = unrolled ∙ bind_refused (turns x.definitions true (outputs x.main) after_inputs.table) u.number u.place
                 (λ o. Done (record { table = o.table; inputs = after_inputs.ports; outputs = o.ports })) g.told;
           }
 
-      pub sizes-told : {sorts'' numbers'' widths'' : List ℕ} {r : Worked} → Before ins widths' widths''
-          → ((ds : List Declaration) (d : Table) → Declared text w refs found entries names places enumerations ins count sorts' numbers' x ds d
-          → TurnsTold text w x true ds d ins sorts'' numbers'' widths'' r) → SizesTold text w x d ins sorts'' numbers'' widths'' r
-      sizes-told {sorts''} {numbers''} {widths''} {r} b g = sized-outputs sorts'' numbers'' widths'' r b (g (outputs x.main) after_inputs.table outs-declared)
+      pub sizes-told : {r : Returned Sized} → StayBefore ins a.widths r
+          → ((ds : List Declaration) (d : Table) → Declared text w refs found entries names places enumerations ins count a.names.sorts a.names.numbers x ds d
+          → TurnsTold text w x true ds d ins r) → SizesTold text w x d ins r
+      sizes-told {r} b g = sized-outputs r b (g (outputs x.main) after_inputs.table outs-declared)
 
 -- what the turns of each heading ask for
 module _ {text w refs places enumerations : List ℕ} {ins count : ℕ} {sorts numbers mem table : List ℕ} {entries : ℕ}

@@ -1,6 +1,8 @@
 -- Signals and buses, each sized at its own turn: the table changes, and the name's own note.
-use Rattle.std.specs.Prelude.{ℕ, suc, ◌+◌, ◌≤◌, ◌<◌, Bool, List, [], ◌∷◌, ◌≡◌, length, get_or}
+use Rattle.std.specs.Prelude.{ℕ, suc, ◌+◌, ◌≤◌, ◌<◌, Bool, List, [], ◌∷◌, ◌≡◌, length, get_or, Ok, Err}
 use Rattle.node.specs.Result.{Result, Done, Refused}
+use Rattle.node.specs.Returned.{Returned}
+use Rattle.declarations.specs.declared.turns.Sized.{Sized}
 use Rattle.language.specs.Limits.{max_names, max_width}
 use Rattle.language.specs.Tokens.{tokens}
 use Rattle.language.specs.Tree.{Declaration, Spec}
@@ -8,14 +10,13 @@ use Rattle.language.specs.DeclaredNames.{Table, Port, Turns, turns}
 use Rattle.language.specs.Lists.{All}
 use Rattle.language.specs.Listed.{declared_name}
 use Rattle.language.specs.RegularWords.{RegularDefinition}
-use Rattle.sets.specs.declared.Worked.{Worked}
 use Rattle.name_values.specs.Worked.{world_in}
 use Rattle.notes.specs.Notes.{Notes}
 use Rattle.notes.specs.Owned.{DeclarationAt}
 use Rattle.memory_notes.specs.ShortTables.{ShortTable}
 use Rattle.declarations.specs.Turnable.{Turnable}
 use Rattle.declarations.specs.Trees.{Tree}
-use Rattle.declarations.specs.Expressions.{Room}
+use Rattle.declarations.specs.Expressions.{Room, LengthKept}
 use Rattle.declarations.specs.Widths.{EnumeratedBy}
 
 -- the declaration m at a position: its own entry k, its enumeration's entry e
@@ -58,11 +59,22 @@ pub record TurnsGiven (text w refs places enumerations : List ℕ) (from to : �
 abbrev pub Before : ℕ → List ℕ → List ℕ → Type 0
 Before n old new = (i : ℕ) → i < n → get_or new i 0 ≡ get_or old i 0
 
--- the answer
-abbrev pub Turned : List ℕ → List ℕ → Spec → Bool → List Declaration → Table → ℕ → (sorts numbers widths : List ℕ) → Worked → Type 0
-Turned text w x output ds d from sorts numbers widths (Worked.Value n) =
-    (s : Turns) × (turns x.definitions output ds d ≡ Done s) × Notes (tokens text) w (world_in x [] s.table) sorts numbers × WidthsFrom widths from s.ports
-Turned text w x output ds d from sorts numbers widths (Worked.Refused n p) = turns x.definitions output ds d ≡ Result.Refused n p
+-- .. as they are after the turns
+abbrev pub StayBefore : ℕ → List ℕ → Returned Sized → Type 0
+StayBefore n old r = (a : Sized) → r ≡ Ok a → Before n old a.widths
 
-pub record TurnsTold (text w : List ℕ) (x : Spec) (output : Bool) (ds : List Declaration) (d : Table) (from : ℕ) (sorts numbers widths : List ℕ) (r : Worked) : Type 0 where
-  pub told : Turned text w x output ds d from sorts numbers widths r
+-- the table has its length where all are sized, and so have the notes and the widths
+pub record SizedLengths (table table' : List ℕ) (r : Returned Sized) : Type 0 where
+  pub table_kept : LengthKept table table' r
+  pub sorts_full : (a : Sized) → r ≡ Ok a → length a.names.sorts ≡ max_names
+  pub numbers_full : (a : Sized) → r ≡ Ok a → length a.names.numbers ≡ max_names
+  pub widths_full : (a : Sized) → r ≡ Ok a → length a.widths ≡ max_names
+
+-- the answer
+abbrev pub Turned : List ℕ → List ℕ → Spec → Bool → List Declaration → Table → ℕ → Returned Sized → Type 0
+Turned text w x output ds d from (Ok a) =
+    (s : Turns) × (turns x.definitions output ds d ≡ Done s) × Notes (tokens text) w (world_in x [] s.table) a.names.sorts a.names.numbers × WidthsFrom a.widths from s.ports
+Turned text w x output ds d from (Err r) = turns x.definitions output ds d ≡ Result.Refused r.number r.place
+
+pub record TurnsTold (text w : List ℕ) (x : Spec) (output : Bool) (ds : List Declaration) (d : Table) (from : ℕ) (r : Returned Sized) : Type 0 where
+  pub told : Turned text w x output ds d from r

@@ -1,10 +1,12 @@
 -- Signals and buses at their turns, one after the other.
-use Rattle.std.specs.Prelude.{ℕ, suc, ◌+◌, ◌≤◌, ◌<◌, Bool, ◌≡◌, refl, get_or, set}
+use Rattle.std.specs.Prelude.{ℕ, suc, ◌+◌, ◌≤◌, ◌<◌, Bool, ◌≡◌, refl, get_or, set, Ok, Err}
 use mathlib.Core.List.{List, [], ◌∷◌, ◌++◌, append_assoc, append-nil}
 use Rattle.std.proofs.Common.{sym, ap, ◌∙◌, add-one, arith, length-append, get_or-set_same, get_or-set_other}
 use Rattle.std.proofs.Math.Path.{subst}
 use Rattle.std.proofs.Math.ListN.{length}
 use Rattle.node.specs.Result.{Result, Done, Refused, ◌>>=◌}
+use Rattle.node.specs.Returned.{Returned}
+use Rattle.node.specs.declared.Refusal.{Refusal}
 use Rattle.language.specs.Limits.{max_names, max_tokens, max_width}
 use Rattle.language.specs.Tokens.{tokens}
 use Rattle.language.specs.Tree.{Definition, Declaration, Spec}
@@ -14,7 +16,6 @@ use Rattle.language.specs.Listed.{declared_name}
 use Rattle.language.specs.RegularWords.{RegularDefinition}
 use Rattle.names.specs.References.{number_in}
 use Rattle.names.specs.Resolved.{declared_names}
-use Rattle.sets.specs.declared.Worked.{Worked}
 use Rattle.name_values.specs.Worked.{world_in}
 use Rattle.notes.specs.Notes.{Notes}
 use Rattle.notes.specs.NotesLaws.{names_distinct, notes-turn}
@@ -141,21 +142,20 @@ module _ (text w refs found : List ℕ) (entries names : ℕ) (places enumeratio
     unrolled = g.same ∙ ap (λ l. onward x.definitions output g.done l g.table) next.is
 
     -- its width, as it is worked out at entry k with the enumeration e
-    module _ (k e : ℕ) (hk : k ≡ get_or places j 0) (he : e ≡ get_or enumerations j 0) (v : Worked)
+    module _ (k e : ℕ) (hk : k ≡ get_or places j 0) (he : e ≡ get_or enumerations j 0) (v : Returned ℕ)
         (f : (found : List ℕ) (entries names : ℕ) (x : Spec) (d : Table) (m : Declaration) → Sizing text w refs found entries names sorts numbers k e x d m → Sizes x.definitions d m v) where
       told : Sizes x.definitions g.table next.own v
       told = f found entries names x g.table next.own (sizing-at k e hk he)
 
-      pub turning-stopped : (n p : ℕ) → v ≡ Worked.Refused n p → TurnsTold text w x output ds d from sorts numbers widths v
-      turning-stopped n p q =
-          let h : Sizes x.definitions g.table next.own (Worked.Refused n p) = subst (Sizes x.definitions g.table next.own) q told in
-          subst (TurnsTold text w x output ds d from sorts numbers widths) (sym q)
-          (record { told = unrolled ∙ onward-refused x.definitions output g.done next.own next.later g.table n p (h.told output) })
+      pub turning-stopped : (u : Refusal) → v ≡ Err u → TurnsTold text w x output ds d from (Err u)
+      turning-stopped u q =
+          let h : Sizes x.definitions g.table next.own (Err u) = subst (Sizes x.definitions g.table next.own) q told in
+          record { told = unrolled ∙ onward-refused x.definitions output g.done next.own next.later g.table u.number u.place (h.told output) }
 
-      pub turning-more : (n r sort : ℕ) → v ≡ Worked.Value n → r ≡ get_or refs k 0 → sort ≡ sort_of n → max_names ≤ length sorts → max_names ≤ length numbers → j < length widths
+      pub turning-more : (n r sort : ℕ) → v ≡ Ok n → r ≡ get_or refs k 0 → sort ≡ sort_of n → max_names ≤ length sorts → max_names ≤ length numbers → j < length widths
           → Turning (j + 1) (set sorts r sort) (set numbers r n) (set widths j n)
       turning-more n r sort q hr hs a b c =
-          let h : Sizes x.definitions g.table next.own (Worked.Value n) = subst (Sizes x.definitions g.table next.own) q told in
+          let h : Sizes x.definitions g.table next.own (Ok n) = subst (Sizes x.definitions g.table next.own) q told in
           let p : Port = port_for x.definitions output next.own n in
           let t = declared_name next.own in
           let z = g.reached in
@@ -182,9 +182,10 @@ module _ (text w refs found : List ℕ) (entries names : ℕ) (places enumeratio
                 (subst (λ i. get_or (set widths j n) i 0 ≡ n) (sym z) (get_or-set_same widths j n 0 c), h.told.1);
           })
 
-  pub turning-all : (j : ℕ) (sorts numbers widths : List ℕ) (n : ℕ) → to ≤ j → Turning j sorts numbers widths → TurnsTold text w x output ds d from sorts numbers widths (Worked.Value n)
+  pub turning-all : (j : ℕ) (sorts numbers widths : List ℕ) → to ≤ j → Turning j sorts numbers widths
+      → TurnsTold text w x output ds d from (Ok (record { names = record { sorts = sorts; numbers = numbers }; widths = widths }))
   unfolding ◌>>=◌
-  turning-all j sorts numbers widths n l g = record {
+  turning-all j sorts numbers widths l g = record {
     told = (
       record { table = g.table; ports = g.done ++ [] },
       end g.left g.total g.same,

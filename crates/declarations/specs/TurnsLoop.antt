@@ -1,10 +1,12 @@
 -- The loop over the declarations of a heading, whichever tree it is: those from position j on wait for their turn.
-use Rattle.std.specs.Prelude.{ℕ, ◌+◌, ◌≤◌, ◌<◌, Bool, false, List, ◌≡◌, length, get_or, set}
+use Rattle.std.specs.Prelude.{ℕ, ◌+◌, ◌≤◌, ◌<◌, Bool, false, List, ◌≡◌, length, get_or, set, Ok, Err}
+use Rattle.node.specs.Returned.{Returned}
+use Rattle.node.specs.declared.Refusal.{Refusal}
+use Rattle.declarations.specs.declared.turns.Sized.{Sized}
 use Rattle.std.proofs.Common.{sym, ap, ◌∙◌, subst, arith}
 use Rattle.language.specs.Limits.{max_names, max_tokens}
 use Rattle.language.specs.Tree.{Declaration, Spec}
 use Rattle.language.specs.DeclaredNames.{Table}
-use Rattle.sets.specs.declared.Worked.{Worked}
 use Rattle.declarations.specs.Expressions.{Room}
 use Rattle.declarations.specs.Widths.{Sizing, Sizable, Sizes, sort_of}
 use Rattle.declarations.specs.Turns.{Declared, TurnsGiven, TurnsTold}
@@ -16,7 +18,7 @@ pub record Looping (text w refs places enumerations : List ℕ) (from to entries
       → Turning text w refs found entries names places enumerations from to x output ds d j sorts numbers widths
 
 -- the width that is worked out, of whatever declaration stands there
-abbrev pub WidthTold : (text w refs sorts numbers : List ℕ) (k e : ℕ) → Worked → Type 0
+abbrev pub WidthTold : (text w refs sorts numbers : List ℕ) (k e : ℕ) → Returned ℕ → Type 0
 WidthTold text w refs sorts numbers k e v =
     (found : List ℕ) (n m : ℕ) (x : Spec) (d : Table) (y : Declaration) → Sizing text w refs found n m sorts numbers k e x d y → Sizes x.definitions d y v
 
@@ -46,13 +48,15 @@ module _ {text w refs places enumerations : List ℕ} {from to entries : ℕ} {s
           next-sizable text w refs g.found entries g.names places enumerations from to g.x false g.ds g.d j sorts numbers widths inside at_turn k e hk he r
 
     -- what its width comes to
-    module _ (inside : j < to) {k e : ℕ} {v : Worked} (hk : k ≡ get_or places j 0) (he : e ≡ get_or enumerations j 0) (f : WidthTold text w refs sorts numbers k e v) where
-      pub looping-stopped : {n p : ℕ} → v ≡ Worked.Refused n p → (found : List ℕ) (names : ℕ) (x : Spec) (output : Bool) (ds : List Declaration) (d : Table)
-          → Declared text w refs found entries names places enumerations from to sorts₀ numbers₀ x ds d → TurnsTold text w x output ds d from sorts numbers widths v
-      looping-stopped {n} {p} u found names x output ds d h =
-          turning-stopped text w refs found entries names places enumerations from to x output ds d j sorts numbers widths inside (l.turning found names x output ds d h) k e hk he v f n p u
+    module _ (inside : j < to) {k e : ℕ} {v : Returned ℕ} (hk : k ≡ get_or places j 0) (he : e ≡ get_or enumerations j 0) (f : WidthTold text w refs sorts numbers k e v) where
+      pub looping-stopped : {a : Returned Sized} {u : Refusal} → v ≡ Err u → a ≡ Err u → (found : List ℕ) (names : ℕ) (x : Spec) (output : Bool) (ds : List Declaration) (d : Table)
+          → Declared text w refs found entries names places enumerations from to sorts₀ numbers₀ x ds d → TurnsTold text w x output ds d from a
+      looping-stopped {a} {u} s z found names x output ds d h =
+          subst (TurnsTold text w x output ds d from) (sym z)
+          (turning-stopped text w refs found entries names places enumerations from to x output ds d j sorts numbers widths inside
+          (l.turning found names x output ds d h) k e hk he v f u s)
 
-      pub looping-more : {n r sort : ℕ} → v ≡ Worked.Value n → r ≡ get_or refs k 0 → sort ≡ sort_of n → max_names ≤ length sorts → max_names ≤ length numbers → j < length widths
+      pub looping-more : {n r sort : ℕ} → v ≡ Ok n → r ≡ get_or refs k 0 → sort ≡ sort_of n → max_names ≤ length sorts → max_names ≤ length numbers → j < length widths
           → Looping text w refs places enumerations from to entries sorts₀ numbers₀ (j + 1) (set sorts r sort) (set numbers r n) (set widths j n)
       looping-more {n} {r} {sort} u hr hs a b c = record {
         turning = λ found names x output ds d h.
@@ -60,7 +64,7 @@ module _ {text w refs places enumerations : List ℕ} {from to entries : ℕ} {s
             a b c;
       }
 
-    pub looping-all : to ≤ j → (n : ℕ) (found : List ℕ) (names : ℕ) (x : Spec) (output : Bool) (ds : List Declaration) (d : Table)
-        → Declared text w refs found entries names places enumerations from to sorts₀ numbers₀ x ds d → TurnsTold text w x output ds d from sorts numbers widths (Worked.Value n)
-    looping-all a n found names x output ds d h =
-        turning-all text w refs found entries names places enumerations from to x output ds d j sorts numbers widths n a (l.turning found names x output ds d h)
+    pub looping-all : to ≤ j → (found : List ℕ) (names : ℕ) (x : Spec) (output : Bool) (ds : List Declaration) (d : Table)
+        → Declared text w refs found entries names places enumerations from to sorts₀ numbers₀ x ds d → TurnsTold text w x output ds d from (Ok (record { names = record { sorts = sorts; numbers = numbers }; widths = widths }))
+    looping-all a found names x output ds d h =
+        turning-all text w refs found entries names places enumerations from to x output ds d j sorts numbers widths a (l.turning found names x output ds d h)

@@ -1,6 +1,7 @@
 -- The width of a signal or a bus at its turn.
-use Rattle.std.specs.Prelude.{ℕ, zero, suc, ◌≤◌, Bool, ◌&&◌, List, [], ◌≡◌, leb}
+use Rattle.std.specs.Prelude.{ℕ, zero, suc, ◌≤◌, Bool, ◌&&◌, List, [], ◌≡◌, leb, Ok, Err}
 use Rattle.node.specs.Result.{Result, Done, Refused, guard}
+use Rattle.node.specs.Returned.{Returned}
 use Rattle.language.specs.Limits.{max_width}
 use Rattle.language.specs.Tokens.{Token, tokens}
 use Rattle.language.specs.Grammar.{Tokens}
@@ -10,7 +11,6 @@ use Rattle.language.specs.Lists.{All}
 use Rattle.language.specs.Listed.{declared_name}
 use Rattle.language.proofs.Laws.Values.RegularWords.{RegularDefinition}
 use Rattle.sets.specs.Answers.{says}
-use Rattle.sets.specs.declared.Worked.{Worked}
 use Rattle.name_values.specs.Sorts as Sort
 use Rattle.name_values.specs.Worked.{world_in}
 use Rattle.notes.specs.Notes.{Notes}
@@ -53,18 +53,18 @@ pub record Sizable (text w refs sorts numbers mem table : List ℕ) (entries k e
   pub room : Room refs sorts numbers mem table entries
 
 -- the answer
-abbrev pub SizedBy : List Definition → Table → Declaration → Worked → Type 0
-SizedBy defs d m (Worked.Value n) = ((output : Bool) → port_of defs output d m ≡ Done (port_for defs output m n)) × (n ≤ max_width)
-SizedBy defs d m (Worked.Refused n p) = (output : Bool) → port_of defs output d m ≡ Result.Refused n p
+abbrev pub SizedBy : List Definition → Table → Declaration → Returned ℕ → Type 0
+SizedBy defs d m (Ok n) = ((output : Bool) → port_of defs output d m ≡ Done (port_for defs output m n)) × (n ≤ max_width)
+SizedBy defs d m (Err r) = (output : Bool) → port_of defs output d m ≡ Result.Refused r.number r.place
 
-pub record Sizes (defs : List Definition) (d : Table) (m : Declaration) (r : Worked) : Type 0 where
+pub record Sizes (defs : List Definition) (d : Table) (m : Declaration) (r : Returned ℕ) : Type 0 where
   pub told : SizedBy defs d m r
 
 -- 'width 0 or over 255'
-pub record IsSized (n place : ℕ) (r : Worked) : Type 0 where
+pub record IsSized (n place : ℕ) (r : Returned ℕ) : Type 0 where
   pub is : says r ≡ guard (leb 1 n && leb n max_width) 13 place (Done n)
-  pub same : (m : ℕ) → r ≡ Worked.Value m → m ≡ n
-  pub small : (m : ℕ) → r ≡ Worked.Value m → m ≤ max_width
+  pub same : (m : ℕ) → r ≡ Ok m → m ≡ n
+  pub small : (m : ℕ) → r ≡ Ok m → m ≤ max_width
 
 -- the note of a name after its turn
 abbrev pub sort_of : ℕ → ℕ

@@ -6,7 +6,6 @@ ghost use Rattle.declarations.specs.DescribingRoom.{DescribeRoom};
 
 use crate::enumeration;
 use crate::enumeration::enumeration_of;
-use basics::u16_usize::wide;
 use entries::kinds;
 use operands::entry::{kind_at, place_at};
 
@@ -38,12 +37,10 @@ pub fn describe(
     requires { DescribeRoom work.now refs.now found.now places.now count order.old enumerations.old offsets.old }
     ensures { Described work.now refs.now found.now places.now count order.new enumerations.new offsets.new }
 {
-    let mut j: usize = 0;
-    while j < count {
-        let k = wide(places[j]);
+    for j in 0..count {
+        let k = usize::from(places[j]);
         order[j] = refs[k];
         enumerations[j] = enumeration_for(work, refs, found, k);
         offsets[j] = place_at(work, k);
-        j += 1;
     }
 }

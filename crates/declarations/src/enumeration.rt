@@ -11,7 +11,6 @@ ghost use Rattle.name_values.specs.Declaring.{EnumerationAt};
 ghost use Rattle.declarations.specs.Enumerations.{enumeration_of};
 
 use crate::constants::before;
-use basics::u16_usize::wide;
 use entries::fields::{SIZES, TOKENS};
 use entries::kinds;
 use language::limits;
@@ -38,11 +37,11 @@ pub fn enumeration_of(work: &[u8], refs: &[u16], found: &[u16], k: usize) -> usi
     requires { (work_bytes ≤ length work.now) × ((k < max_tokens) × ((max_tokens ≤ length refs.now) × (max_names ≤ length found.now))) }
     ensures { result ≡ enumeration_of work.now refs.now found.now k }
 {
-    let r = wide(refs[before(k)]);
+    let r = usize::from(refs[before(k)]);
     if r >= limits::MAX_NAMES {
         return NO_ENTRY;
     }
-    let e = wide(found[r]);
+    let e = usize::from(found[r]);
     if e >= limits::MAX_TOKENS {
         return NO_ENTRY;
     }
@@ -58,8 +57,7 @@ pub fn word_width(work: &[u8], e: usize) -> u32
     ensures { (text : List ℕ) (count : ℕ) (words : List Token) → Lexed text work.now count → EnumerationAt (tokens text) work.now e words
         → result ≡ min longest (word_width words) }
 {
-    let mut i = e + 1;
-    while i < limits::MAX_TOKENS {
+    for i in e + 1..limits::MAX_TOKENS {
         let kind = kind_at(work, i);
         if kind == kinds::WORD {
             return token_word(work, i) % LENGTHS;
@@ -67,7 +65,6 @@ pub fn word_width(work: &[u8], e: usize) -> u32
         if kind != kinds::IDENTIFIER {
             return 0;
         }
-        i += 1;
     }
     0
 }

@@ -13,14 +13,7 @@ mod turns;
 mod width;
 
 use language::limits;
-use ports::Signals;
-
-// How many ports there are, how many of them are inputs, and their signals; or a refusal's number and place.
-#[derive(Clone, Copy)]
-pub enum Declared {
-    Ports(usize, usize, Signals),
-    Refused(u32, u32),
-}
+use ports::TooMany;
 
 // How many entries and declared names a text has.
 #[derive(Clone, Copy)]
@@ -29,10 +22,13 @@ pub struct Counts {
     pub names: usize,
 }
 
-// By port, the number of its name and the entry of the enumeration that it is declared by; by name, the number of its first signal.
+// How many ports there are, how many of them are inputs, and how many signals they have; by port, the number of its name and the entry of the enumeration that it is
+// declared by; by name, the number of its first signal.
 #[derive(Clone, Copy)]
 pub struct Declarations {
-    pub answer: Declared,
+    pub count: usize,
+    pub ins: usize,
+    pub listed: Result<usize, TooMany>,
     pub order: [u16; limits::MAX_NAMES],
     pub enumerations: [u16; limits::MAX_NAMES],
     pub firsts: [u32; limits::MAX_NAMES],

@@ -11,14 +11,15 @@ ghost use Rattle.declarations.specs.Placing.{PortsPlaced};
 ghost use Rattle.declarations.specs.Promise.{Checked, Given};
 
 use crate::Counts;
-use crate::constants::{Chosen, Settled, parameters};
+use crate::constants::{Chosen, parameters};
 use crate::describe::describe;
 use crate::evaluate::Names;
 use entries::{headings, kinds};
 use language::limits;
-use node::MAX_NODES;
+use node::{MAX_NODES, Refusal};
 use notes::choose::choose;
 use notes::first::note_names;
+use operands::Source;
 
 // How many ports there are, and how many of them are inputs; by port, the own entry, the number of the name, the enumeration's entry, the name's offset.
 #[derive(Clone, Copy)]
@@ -31,28 +32,26 @@ pub struct Ports {
     pub offsets: [u32; limits::MAX_NAMES],
 }
 
-// Every declared name is noted, then parameters are worked out in order.
+// Every declared name is noted, then parameters are worked out in order: what is noted then, or the first refusal.
 pub fn globals(
-    text: &[u8],
-    work: &[u8],
-    refs: &[u16],
+    source: &Source,
     found: &[u16],
     counts: Counts,
     memory: &mut [u32],
     table: &mut [u32; MAX_NODES],
-) -> Settled
-    requires { Given text.now work.now refs.now found.now counts.entries counts.names × MemoryRoom memory.old table.old counts.entries }
-    ensures { ((x : Spec) → Checked text.now work.now refs.now found.now counts.entries counts.names x
-        → ConstantsTold text.now work.now x (first_table x) result.names.sorts result.names.numbers result.answer)
-        × Lengths table.old table.new result.names.sorts result.names.numbers result.answer }
+) -> Result<Names, Refusal>
+    requires { Given source.now.text.now source.now.work.now source.now.refs.now found.now counts.entries counts.names × MemoryRoom memory.old table.old counts.entries }
+    ensures { ((x : Spec) → Checked source.now.text.now source.now.work.now source.now.refs.now found.now counts.entries counts.names x
+        → ConstantsTold source.now.text.now source.now.work.now x (first_table x) result)
+        × Lengths table.old table.new result }
 {
     let entries = counts.entries;
     let mut sorts = [0u8; limits::MAX_NAMES];
     let mut numbers = [0u32; limits::MAX_NAMES];
-    note_names(work, found, counts.names, &mut sorts, &mut numbers);
+    note_names(source.work, found, counts.names, &mut sorts, &mut numbers);
     let mut places = [0u16; limits::MAX_NAMES];
     let count = choose(
-        work,
+        source.work,
         entries,
         headings::NO_HEADING,
         kinds::PARAMETER,
@@ -61,9 +60,7 @@ pub fn globals(
         0,
     );
     parameters(
-        text,
-        work,
-        refs,
+        source,
         Chosen { places, count },
         Names { sorts, numbers },
         memory,
@@ -73,17 +70,17 @@ pub fn globals(
 }
 
 // The ports: inputs, then outputs, and what is known of each before any is sized.
-pub fn find_ports(text: &[u8], work: &[u8], refs: &[u16], found: &[u16], counts: Counts) -> Ports
-    requires { Given text.now work.now refs.now found.now counts.entries counts.names }
-    ensures { ((x : Spec) (t : Tree text.now work.now refs.now found.now counts.entries counts.names x)
+pub fn find_ports(source: &Source, found: &[u16], counts: Counts) -> Ports
+    requires { Given source.now.text.now source.now.work.now source.now.refs.now found.now counts.entries counts.names }
+    ensures { ((x : Spec) (t : Tree source.now.text.now source.now.work.now source.now.refs.now found.now counts.entries counts.names x)
         → PortsPlaced t result.places result.ins result.count)
-        × (Described work.now refs.now found.now result.places result.count result.order result.enumerations result.offsets
+        × (Described source.now.work.now source.now.refs.now found.now result.places result.count result.order result.enumerations result.offsets
         × ((length result.order ≡ max_names) × (length result.offsets ≡ max_names))) }
 {
     let entries = counts.entries;
     let mut places = [0u16; limits::MAX_NAMES];
     let ins = choose(
-        work,
+        source.work,
         entries,
         headings::INPUTS,
         kinds::SIGNAL,
@@ -92,7 +89,7 @@ pub fn find_ports(text: &[u8], work: &[u8], refs: &[u16], found: &[u16], counts:
         0,
     );
     let count = choose(
-        work,
+        source.work,
         entries,
         headings::OUTPUTS,
         kinds::SIGNAL,
@@ -104,8 +101,8 @@ pub fn find_ports(text: &[u8], work: &[u8], refs: &[u16], found: &[u16], counts:
     let mut enumerations = [0u16; limits::MAX_NAMES];
     let mut offsets = [0u32; limits::MAX_NAMES];
     describe(
-        work,
-        refs,
+        source.work,
+        source.refs,
         found,
         &places,
         count,

@@ -1,17 +1,14 @@
 // Signals and buses, each sized at its own turn.
-ghost use Rattle.std.specs.Prelude.{Bool, List, ◌≡◌, ℕ, length};
-ghost use Rattle.language.specs.Limits.{max_names};
+ghost use Rattle.std.specs.Prelude.{Bool, List, ℕ};
 ghost use Rattle.language.specs.Tree.{Spec, Declaration};
 ghost use Rattle.language.specs.DeclaredNames.{Table};
-ghost use Rattle.declarations.specs.Expressions.{Lengths};
-ghost use Rattle.declarations.specs.Turns.{Declared, TurnsGiven, TurnsTold, Before};
+ghost use Rattle.declarations.specs.Turns.{Declared, TurnsGiven, TurnsTold, StayBefore, SizedLengths};
 
 use crate::evaluate::Names;
 use crate::width::{Place, sort_of, width_of};
-use basics::u16_usize::wide;
 use language::limits;
-use node::MAX_NODES;
-use sets::Worked;
+use node::{MAX_NODES, Refusal};
+use operands::Source;
 
 // The declarations of one heading, at the positions from `from` to `to`: by position, the own entry, the enumeration's, and the widths known so far.
 #[derive(Clone, Copy)]
@@ -23,32 +20,28 @@ pub struct Heading {
     pub to: usize,
 }
 
-// What is noted, and the widths by position, when they are sized, or the first refusal.
+// What is noted, and the widths by position, when they are sized.
 #[derive(Clone, Copy)]
 pub struct Sized {
-    pub answer: Worked,
     pub names: Names,
     pub widths: [u32; limits::MAX_NAMES],
 }
 
-// Each of the declarations is sized, its width stored at its position, and noted.
+// Each of the declarations is sized, its width stored at its position, and noted; or the first refusal.
 pub fn turns(
-    text: &[u8],
-    work: &[u8],
-    refs: &[u16],
+    source: &Source,
     heading: Heading,
     names: Names,
     memory: &mut [u32],
     table: &mut [u32; MAX_NODES],
     entries: usize,
-) -> Sized
-    requires { TurnsGiven text.now work.now refs.now heading.places heading.enumerations heading.from heading.to names.sorts names.numbers heading.widths
+) -> Result<Sized, Refusal>
+    requires { TurnsGiven source.now.text.now source.now.work.now source.now.refs.now heading.places heading.enumerations heading.from heading.to names.sorts names.numbers heading.widths
         memory.old table.old entries }
     ensures { ((found : List ℕ) (m : ℕ) (x : Spec) (output : Bool) (ds : List Declaration) (d : Table)
-        → Declared text.now work.now refs.now found entries m heading.places heading.enumerations heading.from heading.to names.sorts
-        names.numbers x ds d → TurnsTold text.now work.now x output ds d heading.from result.names.sorts result.names.numbers result.widths result.answer)
-        × (Before heading.from heading.widths result.widths × (Lengths table.old table.new result.names.sorts result.names.numbers result.answer
-        × (length result.widths ≡ max_names))) }
+        → Declared source.now.text.now source.now.work.now source.now.refs.now found entries m heading.places heading.enumerations heading.from heading.to names.sorts
+        names.numbers x ds d → TurnsTold source.now.text.now source.now.work.now x output ds d heading.from result)
+        × (StayBefore heading.from heading.widths result × SizedLengths table.old table.new result) }
 {
     let places = heading.places;
     let enumerations = heading.enumerations;
@@ -56,36 +49,24 @@ pub fn turns(
     let mut widths = heading.widths;
     let mut sorts = names.sorts;
     let mut numbers = names.numbers;
-    let mut j = heading.from;
-    while j < to {
-        let own = wide(places[j]);
-        let enumeration = wide(enumerations[j]);
-        let r = wide(refs[own]);
-        let worked = width_of(
-            text,
-            work,
-            refs,
+    for j in heading.from..to {
+        let own = usize::from(places[j]);
+        let enumeration = usize::from(enumerations[j]);
+        let r = usize::from(source.refs[own]);
+        let n = width_of(
+            source,
             Names { sorts, numbers },
             memory,
             table,
             entries,
             Place { own, enumeration },
-        );
-        let Worked::Value(n) = worked else {
-            return Sized {
-                answer: worked,
-                names: Names { sorts, numbers },
-                widths,
-            };
-        };
+        )?;
         sorts[r] = sort_of(n);
         numbers[r] = n;
         widths[j] = n;
-        j += 1;
     }
-    Sized {
-        answer: Worked::Value(0),
+    Ok(Sized {
         names: Names { sorts, numbers },
         widths,
-    }
+    })
 }

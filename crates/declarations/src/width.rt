@@ -11,9 +11,9 @@ use crate::evaluate::{Names, number_of};
 use entries::kinds;
 use language::limits;
 use name_values::sorts;
-use node::{MAX_NODES, refusals};
+use node::{MAX_NODES, Refusal, refusals};
+use operands::Source;
 use operands::entry::{kind_at, place_at};
-use sets::Worked;
 
 pub fn sort_of(width: u32) -> u8
     ensures { result ≡ sort_of width }
@@ -25,16 +25,22 @@ pub fn sort_of(width: u32) -> u8
     }
 }
 
-fn sized(n: u32, place: u32) -> Worked
+fn sized(n: u32, place: u32) -> Result<u32, Refusal>
     ensures { IsSized n place result }
 {
     if n < 1 {
-        return Worked::Refused(refusals::WRONG_WIDTH, place);
+        return Err(Refusal {
+            number: refusals::WRONG_WIDTH,
+            place,
+        });
     }
     if n > limits::MAX_WIDTH {
-        return Worked::Refused(refusals::WRONG_WIDTH, place);
+        return Err(Refusal {
+            number: refusals::WRONG_WIDTH,
+            place,
+        });
     }
-    Worked::Value(n)
+    Ok(n)
 }
 
 // A port's own entry, and that of the enumeration that it is declared by.
@@ -46,35 +52,30 @@ pub struct Place {
 
 // The width of the signal or bus there, 0 for a single signal.
 pub fn width_of(
-    text: &[u8],
-    work: &[u8],
-    refs: &[u16],
+    source: &Source,
     names: Names,
     memory: &mut [u32],
     table: &mut [u32; MAX_NODES],
     entries: usize,
     place: Place,
-) -> Worked
-    requires { Sizable text.now work.now refs.now names.sorts names.numbers memory.old table.old entries place.own place.enumeration }
-    ensures { ((found : List ℕ) (n m : ℕ) (x : Spec) (d : Table) (y : Declaration) → Sizing text.now work.now refs.now found n m names.sorts
+) -> Result<u32, Refusal>
+    requires { Sizable source.now.text.now source.now.work.now source.now.refs.now names.sorts names.numbers memory.old table.old entries place.own place.enumeration }
+    ensures { ((found : List ℕ) (n m : ℕ) (x : Spec) (d : Table) (y : Declaration) → Sizing source.now.text.now source.now.work.now source.now.refs.now found n m names.sorts
         names.numbers place.own place.enumeration x d y → Sizes x.definitions d y result) × LengthKept table.old table.new result }
 {
     let k = place.own;
-    let kind = kind_at(work, k);
+    let kind = kind_at(source.work, k);
     if kind == kinds::SIGNAL {
-        return Worked::Value(0);
+        return Ok(0);
     }
-    let at = place_at(work, k);
+    let at = place_at(source.work, k);
     if kind == kinds::TYPED {
         let e = place.enumeration;
         if e == NO_ENTRY {
             return sized(0, at);
         }
-        return sized(word_width(work, e), at);
+        return sized(word_width(source.work, e), at);
     }
-    let worked = number_of(text, work, refs, names, memory, table, entries, before(k));
-    let Worked::Value(n) = worked else {
-        return worked;
-    };
+    let n = number_of(source, names, memory, table, entries, before(k))?;
     sized(n, at)
 }

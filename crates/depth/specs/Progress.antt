@@ -5,7 +5,7 @@ use Rattle.language.specs.Limits.{work_bytes, max_tokens}
 use Rattle.traversal.specs.Cells.{cell_at}
 use Rattle.traversal.specs.Places.{placed}
 use Rattle.traversal.specs.Passed.{passed}
-use Rattle.depth.specs.declared.Progress.{Progress}
+use Rattle.traversal.specs.declared.Progress.{Progress}
 use Rattle.depth.specs.Depth.{State, levels_of, starts_of, step, state}
 
 pub record Agrees (s : State) (p : Progress) (ls ss : List ℕ) : Type 0 where

@@ -6,11 +6,10 @@ use Rattle.language.specs.Limits.{max_tokens}
 use Rattle.language.specs.Places.{first}
 use Rattle.lexer.specs.Stored.{offset_in}
 use Rattle.traversal.specs.declared.Cell.{Cell}
-use Rattle.traversal.specs.declared.Place.{Place}
 use Rattle.traversal.specs.Arity.{operands, first_line}
 use Rattle.traversal.specs.Cells.{cell_at}
-use Rattle.traversal.specs.Places.{placed, place_in}
-use Rattle.depth.specs.declared.Progress.{Progress}
+use Rattle.traversal.specs.Places.{Place, placed, place_in}
+use Rattle.traversal.specs.declared.Progress.{Progress}
 use Rattle.traversal.specs.Starts.{first_of, start_of}
 use Rattle.depth.specs.Depth.{highest, level_of, fault_of, step}
 use Rattle.depth.specs.DepthLaws.{finds-deep}

@@ -3,9 +3,8 @@ use Rattle.std.specs.Prelude.{ℕ, List, ◌≡◌}
 use Rattle.language.specs.Tree.{Spec}
 use Rattle.language.specs.Grammar.{Tokens}
 use Rattle.language.specs.Places.{too_deep}
-use Rattle.traversal.specs.declared.Place.{Place}
 use Rattle.traversal.specs.Cells.{TokensTell, Offset}
-use Rattle.traversal.specs.Places.{placed}
+use Rattle.traversal.specs.Places.{Place, placed}
 use Rattle.traversal.specs.TreeStored.{TreeStored}
 
 -- the answer, whatever tree the entries hold

@@ -10,14 +10,13 @@ use Rattle.language.specs.Places.{first}
 use Rattle.language.proofs.Laws.Basics.Tests.{pick, leave}
 use Rattle.lexer.specs.Stored.{offset_in}
 use Rattle.traversal.specs.declared.Cell.{Cell}
-use Rattle.traversal.specs.declared.Place.{Place}
 use Rattle.traversal.specs.Arity.{operands, first_line}
 use Rattle.traversal.specs.Cells.{cell_at}
-use Rattle.traversal.specs.Places.{placed, place_in}
+use Rattle.traversal.specs.Places.{Place, placed, place_in}
 use Rattle.traversal.specs.PlaceLaws.{place-placed}
 use Rattle.traversal.specs.StackLaws.{stack_part, stack-below, stack_push}
 use Rattle.traversal.specs.PassedLaws.{passed_none, passed-more}
-use Rattle.depth.specs.declared.Progress.{Progress}
+use Rattle.traversal.specs.declared.Progress.{Progress}
 use Rattle.traversal.specs.Starts.{first_of, start_of}
 use Rattle.depth.specs.Depth.{Operand, State, highest, level_of, levels_of, starts_of, node, fault_of, fault, stepped, step, state}
 use Rattle.depth.specs.Progress.{Agrees, after, Reached}

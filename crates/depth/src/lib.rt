@@ -11,30 +11,19 @@ ghost use Rattle.depth.specs.Progress.{Reached};
 ghost use Rattle.depth.specs.Promise.{TooDeep};
 ghost use Rattle.depth.specs.Depth.{capped, highest as highest', level_of, fault_of};
 
-use basics::larger;
 use entries::kinds;
 use language::limits;
 use lexer::fields::{LENGTHS, OFFSETS};
-use traversal::{Place, cell_at, first_of, less, operand_count, start_of};
-
-// The kind of the entry before, how many operands are on the stack, and the first place found.
-#[derive(Clone, Copy)]
-pub struct Progress {
-    pub before: u32,
-    pub top: usize,
-    pub found: Place,
-}
+use traversal::{Progress, cell_at, first, first_of, operand_count, start_of};
 
 // The functions below are the pass's own: it has bounded what they ask for.
 fn highest(levels: &[u32], from: usize, to: usize) -> u32
     requires { to ≤ length levels.now }
     ensures { result ≡ highest' (slice from to levels.now) }
 {
-    let mut most = 0;
-    let mut i = from;
-    while i < to {
-        most = larger(most, levels[i]);
-        i += 1;
+    let mut most: u32 = 0;
+    for i in from..to {
+        most = most.max(levels[i]);
     }
     most
 }
@@ -77,16 +66,16 @@ fn level_of(kind: u32, most: u32, start: u32) -> u32
 }
 
 // Too deep, if the entry is a line's.
-fn fault_of(kind: u32, level: u32, start: u32) -> Place
+fn fault_of(kind: u32, level: u32, start: u32) -> Option<u32>
     ensures { result ≡ placed (fault_of kind level start) }
 {
     if kind < kinds::LINES {
-        return Place::Nowhere;
+        return None;
     }
     if level <= limits::MAX_LEVELS {
-        return Place::Nowhere;
+        return None;
     }
-    Place::At(start)
+    Some(start)
 }
 
 // One entry.
@@ -97,29 +86,28 @@ fn pass(work: &[u8], i: usize, p: Progress, levels: &mut [u32], starts: &mut [u3
     let c = cell_at(work, i);
     let kind = c.kind;
     let top = p.top;
-    let below = less(top, operand_count(p.before, c));
+    let below = top.saturating_sub(operand_count(p.before, c));
     let start = first_of(starts, below, top);
     let fault = fault_of(kind, first_of(levels, below, top), start);
-    let before = p.found;
-    let found = before.first(fault);
+    let found = first(p.found, fault);
     if kind < kinds::LINES {
         levels[below] = level_of(kind, highest(levels, below, top), start);
         starts[below] = start_of(kind, c.token / LENGTHS % OFFSETS, start);
         return Progress {
             before: kind,
             top: below + 1,
-            found: found,
+            found,
         };
     }
     Progress {
         before: kind,
         top: below,
-        found: found,
+        found,
     }
 }
 
 // The first place of refusal 5, if there is one.
-pub fn too_deep(work: &[u8], entries: usize) -> Place
+pub fn too_deep(work: &[u8], entries: usize) -> Option<u32>
     requires { (work_bytes ≤ length work.now) × (entries ≤ max_tokens) }
     ensures { TooDeep work.now entries result }
 {
@@ -128,12 +116,10 @@ pub fn too_deep(work: &[u8], entries: usize) -> Place
     let mut p = Progress {
         before: 0,
         top: 0,
-        found: Place::Nowhere,
+        found: None,
     };
-    let mut i = 0;
-    while i < entries {
+    for i in 0..entries {
         p = pass(work, i, p, &mut levels, &mut starts);
-        i += 1;
     }
     p.found
 }

@@ -1,5 +1,5 @@
 -- `diagnose` by stages: the reader's answer into a table and a list of the largest size, then the diagnosis of the table.
-use Rattle.std.specs.Prelude.{ℕ, ◌≤◌, ◌≡◌, refl, Bool, true, false, List, leb, length, take}
+use Rattle.std.specs.Prelude.{ℕ, ◌≤◌, ◌≡◌, refl, Bool, true, false, List, leb, length, take, Ok, Err}
 use Rattle.std.proofs.Common.{ap, ap₂, ◌∙◌, sym, subst, leb-true}
 use Rattle.std.proofs.Math.Logic.Iff as Equiv
 use Rattle.std.proofs.lemmas.List.{length-map}
@@ -10,8 +10,8 @@ use Rattle.node.proofs.ResultLaws.{guard-done, guard_bind, bind_to, bind_where, 
 use Rattle.node.specs.Table.{tree_at}
 use Rattle.node.specs.Written.{nodes_of, count}
 use Rattle.node.proofs.WrittenLaws.{length_of, table-root}
-use Rattle.node.specs.declared.Answer.{Answer}
-use Rattle.node.specs.declared.Answer.TheVariants.{Accepted}
+use Rattle.node.specs.Returned.{Returned}
+use Rattle.node.specs.declared.Refusal.{Refusal}
 use Rattle.bits.specs.Bits.{Values}
 use Rattle.recordings.specs.Recording.{lasso_of, letter_of}
 use Rattle.recordings.specs.declared.Lasso.{Lasso}
@@ -45,7 +45,7 @@ use Rattle.diagnosis.specs.Tables.{found_by, DiagnosesTable}
 use Rattle.diagnosis.specs.TablesLaws.{judged_opens}
 
 -- the promise follows from the answer and the buffers
-diagnosed : {text recording work rows work' rows' : List ℕ} {r : Diagnosis} → tells r ≡ diagnosing text recording (length work) (length rows)
+diagnosed : {text recording work rows work' rows' : List ℕ} {r : Returned Diagnosis} → tells r ≡ diagnosing text recording (length work) (length rows)
     → rows' ≡ rows_after text recording (length work) rows → work' ≡ work_after work → Diagnoses text recording work rows work' rows' r
 diagnosed {text} {recording} {work} {rows} e l w =
     record {
@@ -123,14 +123,14 @@ module _ {text work work' table table' list list' : List ℕ} {told : Told} (rea
   answered r e = sym (reading-accepting text (length work)) ∙ ap₂ (reading text (length work)) (sym large) (sym long) ∙ e
 
   -- a text that is refused
-  pub read-refused : {n p : ℕ} (recording rows : List ℕ) → told.answer ≡ Answer.Refused n p → Diagnoses text recording work rows work' rows (Diagnosis.Refused n p)
-  read-refused {n} {p} recording rows e =
-      let a = answered (Refused n p) (refused read.reads.yields e) in
-      diagnosed (sym (diagnosing-accepting text recording (length work) (length rows) ∙ bind_refused (accepting text (length work)) n p _ a)) (sym (ap (rows_left recording rows) a))
+  pub read-refused : {x : Refusal} {r : Returned Diagnosis} (recording rows : List ℕ) → told.answer ≡ Err x → r ≡ Err x → Diagnoses text recording work rows work' rows r
+  read-refused {x} recording rows e h =
+      let a = answered (Refused x.number x.place) (refused read.reads.yields e) in
+      diagnosed (ap tells h ∙ sym (diagnosing-accepting text recording (length work) (length rows) ∙ bind_refused (accepting text (length work)) x.number x.place _ a)) (sym (ap (rows_left recording rows) a))
       read.reads.yields.work_left
 
   -- a text that is accepted
-  pub read_accepted : {n s : ℕ} → told.answer ≡ Accepted n s → AtHand text work work' table' n s told
+  pub read_accepted : {n s : ℕ} → told.answer ≡ Ok (n, s) → AtHand text work work' table' n s told
   read_accepted {n} {s} e =
       let t = accepted read.reads.yields e in
       let c = t.value in
@@ -152,7 +152,7 @@ module _ {text work work' table table' list list' : List ℕ} {told : Told} (rea
       }
 
 -- the diagnosis of what is at hand
-pub read_diagnosed : {text recording work work' table rows rows' : List ℕ} {n s : ℕ} {told : Told} {r : Diagnosis} → AtHand text work work' table n s told
+pub read_diagnosed : {text recording work work' table rows rows' : List ℕ} {n s : ℕ} {told : Told} {r : Returned Diagnosis} → AtHand text work work' table n s told
     → DiagnosesTable (take n table) s recording told.facts.strict told.lines rows rows' r → Diagnoses text recording work rows work' rows' r
 read_diagnosed {text} {recording} {work} {rows = rows} {rows'} {told = told} {r} g d =
     let c = g.source in

@@ -1,37 +1,35 @@
 // Which line of a text failed on a recording (document 02, F-7): the line is found from a table's root by operands, and the bits of its row tell where it is false.
 #![tactic(auto)]
 
-ghost use Rattle.std.specs.Prelude.{◌≡◌, ℕ, ◌≤◌, ◌<◌, length};
+ghost use Rattle.std.specs.Prelude.{◌≡◌, ◌≤◌, ◌<◌, length, Ok};
 ghost use Rattle.recordings.specs.Limits.{max_positions};
 ghost use Rattle.line_search.specs.Walking.{line_found};
 ghost use Rattle.diagnosis.specs.Promise.{tells, Diagnoses};
-ghost use Rattle.diagnosis.specs.Tables.{Unblamed, DiagnosesTable};
-ghost use Rattle.diagnosis.specs.declared.Diagnosis.{Diagnosis as NotDiagnosed};
-ghost use Rattle.node.specs.declared.Answer.{Answer as NotRead};
+ghost use Rattle.diagnosis.specs.Tables.{DiagnosesTable};
 ghost use Rattle.node.specs.Result.{Done};
 ghost use Rattle.node.specs.Limits.{max_nodes};
 
+use basics::either;
 use evaluator::Verdict;
 use line_counts::LineCounts;
-use line_search::{broken, either, first_false, walk};
-use node::{Answer, MAX_NODES, MAX_SIGNALS};
+use line_search::{broken, first_false, walk};
+use node::{MAX_NODES, MAX_SIGNALS, Refusal};
 use reader::read_told;
 use recordings::read_lasso;
 
-// The recording holds; a line of PRESET, ASSERT or GUARANTEE by its number; or a refusal with number and place.
-#[derive(Clone, Copy)]
+// The recording holds, or a line of PRESET, ASSERT or GUARANTEE by its number.
+#[derive(Clone, Copy, PartialEq, Eq)]
 pub enum Diagnosis {
     Holds,
     Preset(u32),
     Assert(u32),
     Guarantee(u32),
-    Refused(u32, u32),
 }
 
 // The line that is named of a table that fails, from its root and its rows over n positions.
 fn name_line(nodes: &[u32], rows: &[u8], n: usize, strict: bool, lines: LineCounts) -> Diagnosis
     requires { (0 < length nodes.now) × ((length nodes.now ≤ max_nodes) × (n ≤ max_positions)) }
-    ensures { tells result ≡ Done (line_found nodes.now rows.now strict lines n) }
+    ensures { tells (Ok result) ≡ Done (line_found nodes.now rows.now strict lines n) }
 {
     let width = (n + 7) / 8;
     let root = (nodes.len() - 1) as u32;
@@ -50,16 +48,6 @@ fn name_line(nodes: &[u32], rows: &[u8], n: usize, strict: bool, lines: LineCoun
     Diagnosis::Guarantee(first_false(nodes, rows, width, guarantee, lines.guarantee, 0))
 }
 
-// A verdict that names no line: the recording holds, or a refusal handed up.
-fn unblamed(verdict: Verdict) -> Diagnosis
-    ensures { Unblamed verdict result }
-{
-    let Verdict::Refused(number, place) = verdict else {
-        return Diagnosis::Holds;
-    };
-    Diagnosis::Refused(number, place)
-}
-
 // The verdict on a table, and the line that is named where it fails.
 fn diagnose_table(
     nodes: &[u32],
@@ -68,41 +56,39 @@ fn diagnose_table(
     strict: bool,
     lines: LineCounts,
     rows: &mut [u8],
-) -> Diagnosis
+) -> Result<Diagnosis, Refusal>
     ensures { DiagnosesTable nodes.now signals recording.now strict lines rows.old rows.new result }
 {
-    let verdict = evaluator::judge(nodes, signals, recording, rows);
-    let Verdict::Fails = verdict else {
-        return unblamed(verdict);
-    };
-    let lasso = read_lasso(recording);
-    name_line(nodes, rows, lasso.n, strict, lines)
-}
-
-// A refusal of the reader's handed up.
-fn unread(answer: Answer) -> Diagnosis
-    ensures { (n p : ℕ) → answer ≡ NotRead.Refused n p → result ≡ NotDiagnosed.Refused n p }
-{
-    let Answer::Refused(number, place) = answer else {
-        return Diagnosis::Refused(0, 0);
-    };
-    Diagnosis::Refused(number, place)
+    match evaluator::judge(nodes, signals, recording, rows)? {
+        Verdict::Holds => Ok(Diagnosis::Holds),
+        Verdict::Fails => {
+            let lasso = read_lasso(recording);
+            Ok(name_line(nodes, rows, lasso.n, strict, lines))
+        }
+    }
 }
 
 // Which line of a text failed on a recording? Refused by 17, then 1 to 16 for the text, then 20, 23 and 18 for the recording and the rows. `rows` has a row for every node
 // of the text afterwards, unless the call is refused: then it is as it was. The first 65,536 bytes of `work` are zero afterwards, unless it is shorter.
-pub fn diagnose(text: &[u8], recording: &[u8], work: &mut [u8], rows: &mut [u8]) -> Diagnosis
+pub fn diagnose(
+    text: &[u8],
+    recording: &[u8],
+    work: &mut [u8],
+    rows: &mut [u8],
+) -> Result<Diagnosis, Refusal>
     ensures { Diagnoses text.now recording.now work.old rows.old work.new rows.new result }
 {
     let mut table: [u32; MAX_NODES] = [0; MAX_NODES];
     let mut list: [u32; MAX_SIGNALS] = [0; MAX_SIGNALS];
     let told = read_told(text, work, &mut table, &mut list);
-    let answer = told.answer;
-    let facts = told.facts;
-    let lines = told.lines;
-    let Answer::Accepted(count, listed) = answer else {
-        return unread(answer);
-    };
+    let (count, listed) = told.answer?;
     let n = count as usize;
-    diagnose_table(&table[..n], listed, recording, facts.strict, lines, rows)
+    diagnose_table(
+        &table[..n],
+        listed,
+        recording,
+        told.facts.strict,
+        told.lines,
+        rows,
+    )
 }

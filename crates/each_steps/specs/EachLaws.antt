@@ -1,5 +1,5 @@
 -- `&&[..]` and `||[..]`: the set has come; the operand at an element was written, and the fold goes on.
-use Rattle.std.specs.Prelude.{ℕ, suc, ◌+◌, ◌≤◌, ◌<◌, min, Bool, List, [], ◌∷◌, ◌≡◌, refl, eqb, get_or}
+use Rattle.std.specs.Prelude.{ℕ, suc, ◌+◌, ◌≤◌, ◌<◌, min, Bool, List, [], ◌∷◌, ◌≡◌, refl, eqb, get_or, Ok, Err}
 use Rattle.std.proofs.Common.{sym, ap, ◌∙◌, subst, arith}
 use Rattle.node.specs.Limits.{max_nodes}
 use Rattle.node.specs.Operators.{And}
@@ -7,6 +7,9 @@ use Rattle.node.specs.Kinds.{binary_kind}
 use Rattle.node.specs.Ltl.{Formula, Two}
 use Rattle.node.specs.Result.{Result, ◌>>=◌}
 use Rattle.node.proofs.ResultLaws.{bind_at}
+use Rattle.node.specs.Returned.{refusal}
+use Rattle.machine.specs.declared.Move.TheVariants.{Next}
+use Rattle.machine.specs.Stepped.{Stepped}
 use Rattle.writing.specs.Writing.{Wrote, Joins}
 use Rattle.writing.specs.StayLaws.{two_stays, stays_none, wrote_stays}
 use Rattle.language.specs.Tokens.{Token}
@@ -36,8 +39,6 @@ use Rattle.machine.specs.TakeLaws.{entry_word_lem, value-word, refuses, top-phas
 use Rattle.machine.specs.FlatLaws.{flat-laid}
 use Rattle.machine.specs.FormulaLaws.{formula-laid, finishes}
 use Rattle.machine.specs.declared.Machine.{Machine}
-use Rattle.machine.specs.declared.Move.{Move}
-use Rattle.machine.specs.declared.Move.TheVariants.{Next, Refused as Refuses}
 use Rattle.machine.specs.Entering.{Waiting}
 use Rattle.fold_steps.specs.BigLaws.{of_formulas}
 use Rattle.fold_steps.specs.Turning.{Turns, begun, Beginning}
@@ -54,7 +55,7 @@ module _ {s : Source} {mem : List ℕ} {m : Machine} (w : Waiting mem m Phase.fi
       let h = top_as t.top v.5 in
       turnable h {phase = Phase.first_each} {rest = v.4} {forms = []} refl t.lent.small h.few
 
-  pub first-steps : m.mode ≡ is_nodes → {mem' : List ℕ} {r : Move} → Onward mem mem' m m.nodes r → Takes s mem mem' m r
+  pub first-steps : m.mode ≡ is_nodes → {mem' : List ℕ} {r : Stepped} → Onward mem mem' m m.nodes r → Takes s mem mem' m r
   first-steps e {mem'} {r} u = record {
     turns = λ R x o out t.
         let v = by_phase t.frame Phase.first_each (top-phase t ∙ w.phase) in
@@ -93,7 +94,7 @@ module _ {s : Source} {mem out : List ℕ} {m : Machine} (w : Waiting mem m Phas
       let e = ap (λ (j : ℕ). prefix_code_at (number_at s.work j)) (entry_word_lem h) ∙ h.at.waits.0.here.spelt ∙ connective-code v.0 h.at.waits.2 in
       subst (λ (j : ℕ). j < 16) (sym e) (binary-small (connective v.0))
 
-  pub next-steps : m.mode ≡ is_nodes → {k op folded r n : ℕ} {mem' out' : List ℕ} {u : Move} → k ≡ get_or mem (m.frames + entry_field) 0 → op ≡ prefix_code_at (number_at s.work k)
+  pub next-steps : m.mode ≡ is_nodes → {k op folded r n : ℕ} {mem' out' : List ℕ} {u : Stepped} → k ≡ get_or mem (m.frames + entry_field) 0 → op ≡ prefix_code_at (number_at s.work k)
       → folded ≡ get_or mem (m.frames + value_field) 0 → Joins op out out' folded m.nodes r → n ≡ min r (suc max_nodes) → Onward mem mem' m n u → TakesToWrite s mem mem' out out' m u
   next-steps e {k} {op} {folded} {r} {n} {mem'} {out'} {u} ek eo ef j en on = record {
     turns = λ R x o t.
@@ -141,7 +142,7 @@ module _ {s : Source} {mem out : List ℕ} {m : Machine} (w : Waiting mem m Phas
       kind-is : {R : Realm s} {x : Result Came} {o : Began} {op : Big} {c : Context} {i : Token} {a : Expr} (h : TopOf R mem out m x o (OverEach op c i a)) → kind ≡ Kind.big op
       kind-is h = ei ∙ ap (kind_at s.work) (ek ∙ entry_word_lem h) ∙ h.at.waits.0.here.kind
 
-      pub elements-formless : kind < Kind.big_formulas → TakesToWrite s mem mem out out m (Refuses 9 0)
+      pub elements-formless : kind < Kind.big_formulas → TakesToWrite s mem mem out out m (Err (refusal 9 0))
       elements-formless l = record {
         turns = λ R x o t.
             let v = by_phase t.frame Phase.over_each (top-phase t ∙ w.phase) in
@@ -156,7 +157,7 @@ module _ {s : Source} {mem out : List ℕ} {m : Machine} (w : Waiting mem m Phas
       -- over nothing
       pub elements-none : Kind.big_formulas ≤ kind → m.value ≡ 0 → {b : Bool} {out' : List ℕ} {code r n : ℕ} → code ≡ prefix_code_at (number_at s.work k) → b ≡ eqb code (binary_kind And)
           → Wrote (Expansion.truth b) out out' m.nodes r → n ≡ min r (suc max_nodes)
-          → TakesToWrite s mem mem out out' m (Next (wrote (popped m) n))
+          → TakesToWrite s mem mem out out' m (Ok (Next (wrote (popped m) n)))
       elements-none l z {b} {out'} {code} {r} {n} ec eb wr en = record {
         turns = λ R x o t.
             let v = by_phase t.frame Phase.over_each (top-phase t ∙ w.phase) in
@@ -179,7 +180,7 @@ module _ {s : Source} {mem out : List ℕ} {m : Machine} (w : Waiting mem m Phas
 
       -- over a first element and others
       pub elements-steps : Kind.big_formulas ≤ kind → (m.value ≡ 0 → ⊥) → {mem' : List ℕ} {n : Machine}
-          → Turns mem mem' m (begun mem m Phase.first_each) m.depth (get_or mem m.from 0) (mode_of Expand) (above m) n → TakesToWrite s mem mem' out out m (Next n)
+          → Turns mem mem' m (begun mem m Phase.first_each) m.depth (get_or mem m.from 0) (mode_of Expand) (above m) n → TakesToWrite s mem mem' out out m (Ok (Next n))
       elements-steps l some' {mem'} {n} q = record {
         turns = λ R x o t.
             let v = by_phase t.frame Phase.over_each (top-phase t ∙ w.phase) in

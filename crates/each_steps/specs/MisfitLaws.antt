@@ -1,7 +1,9 @@
 -- A formula as a value is marked as one; a value as a formula is a misfit.
-use Rattle.std.specs.Prelude.{ℕ, List, refl}
+use Rattle.std.specs.Prelude.{ℕ, List, refl, Ok, Err}
 use Rattle.std.proofs.Common.{◌∙◌, arith}
 use Rattle.node.proofs.ResultLaws.{bind_to}
+use Rattle.node.specs.Returned.{refusal}
+use Rattle.machine.specs.declared.Move.TheVariants.{Next}
 use Rattle.language.specs.Values.{Logic}
 use Rattle.operands.specs.Working.{Source}
 use Rattle.machine.specs.Came.{worth, nodes}
@@ -13,11 +15,10 @@ use Rattle.machine.specs.Moves.{came}
 use Rattle.machine.specs.ComeLaws.{misfit_then}
 use Rattle.machine.specs.OperandLaws.{operand-view}
 use Rattle.machine.specs.declared.Machine.{Machine}
-use Rattle.machine.specs.declared.Move.TheVariants.{Next, Refused as Refuses}
 use Rattle.machine.specs.EnteringLaws.{works-value, works-formula, operand_making}
 use Rattle.each_steps.specs.Misfits.{Logical, Formless}
 
-pub logic-steps : {s : Source} {mem : List ℕ} {m : Machine} → Logical s.work m → Steps s mem mem m (Next (came m is_logic 0 0))
+pub logic-steps : {s : Source} {mem : List ℕ} {m : Machine} → Logical s.work m → Steps s mem mem m (Ok (Next (came m is_logic 0 0)))
 logic-steps k = record {
   turns = λ R x o out h.
       let e = k.mode in
@@ -26,7 +27,7 @@ logic-steps k = record {
       comes n Logic (works-value n e ∙ bind_to _ Logic worth (v n.context.values)) refl tt;
 }
 
-pub misfit-steps : {s : Source} {mem : List ℕ} {m : Machine} → Formless s.work m → Steps s mem mem m (Refuses 9 0)
+pub misfit-steps : {s : Source} {mem : List ℕ} {m : Machine} → Formless s.work m → Steps s mem mem m (Err (refusal 9 0))
 misfit-steps k = record {
   turns = λ R x o out h.
       let e = k.mode in

@@ -1,10 +1,12 @@
 -- The operands of `&&[..]` and `||[..]` so far are folded into a formula: the fold goes on, whichever operand was written last.
-use Rattle.std.specs.Prelude.{ℕ, suc, ◌+◌, ◌-◌, ◌≤◌, ◌<◌, ◌^◌, List, [], ◌∷◌, ◌≡◌, refl, length, get_or}
+use Rattle.std.specs.Prelude.{ℕ, suc, ◌+◌, ◌-◌, ◌≤◌, ◌<◌, ◌^◌, List, [], ◌∷◌, ◌≡◌, refl, length, get_or, Ok}
 use Rattle.std.proofs.Common.{sym, ap, ◌∙◌, subst, arith}
 use Rattle.node.specs.Limits.{max_nodes}
 use Rattle.node.specs.Ltl.{Formula}
 use Rattle.node.specs.Result.{Result}
 use Rattle.node.proofs.ResultLaws.{bind_at}
+use Rattle.machine.specs.declared.Move.TheVariants.{Next}
+use Rattle.machine.specs.Stepped.{Stepped}
 use Rattle.language.specs.Tokens.{Token}
 use Rattle.language.specs.Operators.{Big}
 use Rattle.language.specs.Tree.{Expr}
@@ -27,8 +29,6 @@ use Rattle.machine.specs.States.{mode_of, Turned, TopOf}
 use Rattle.machine.specs.Moves.{wrote}
 use Rattle.machine.specs.TakeLaws.{words, base_word, count_word, pops}
 use Rattle.machine.specs.declared.Machine.{Machine}
-use Rattle.machine.specs.declared.Move.{Move}
-use Rattle.machine.specs.declared.Move.TheVariants.{Next}
 use Rattle.fold_steps.specs.Turning.{Turns, words_at, next_at, Continuing}
 use Rattle.fold_steps.specs.ElementLaws.{split}
 use Rattle.fold_steps.specs.ContinueLaws.{turning_scope, turning-depth, turning_held, turning_lies, turning-count, continuing, continues}
@@ -65,7 +65,7 @@ module _ {s : Source} {R : Realm s} {mem out : List ℕ} {m : Machine} {x : Resu
     pub stays : Stays out out' m.nodes n
     pub same : apply F h.came ≡ onward_formulas op c i e rest a
 
-  module _ {op : Big} {c : Context} {i : Token} {e : Expr} {a : Formula} {mem' out' : List ℕ} {n : ℕ} {r : Move} (t : FoldsTo op c i e a out' n) (w : Onward mem mem' m n r) where
+  module _ {op : Big} {c : Context} {i : Token} {e : Expr} {a : Formula} {mem' out' : List ℕ} {n : ℕ} {r : Stepped} (t : FoldsTo op c i e a out' n) (w : Onward mem mem' m n r) where
     -- no element is left
     closes : rest ≡ [] → Turned R mem mem' out out' m x o r
     closes none =
@@ -73,7 +73,7 @@ module _ {s : Source} {R : Realm s} {mem out : List ℕ} {m : Machine} {x : Resu
         let cw = count_word h in
         let td = turning-depth h f in
         let q = w.last (omega arith) in
-        subst (λ (y : Move). Turned R mem mem' out out' m x o y) (sym q.1) (subst (λ (y : List ℕ). Turned R mem y out out' m x o (Next (closed m (base_of mem m) n))) (sym q.0)
+        subst (λ (y : Stepped). Turned R mem mem' out out' m x o y) (sym q.1) (subst (λ (y : List ℕ). Turned R mem y out out' m x o (Ok (Next (closed m (base_of mem m) n)))) (sym q.0)
         (pops h {v = Nodes a} (record {
           same = t.same ∙ ap (λ (l : List ℕ). onward_formulas op c i e l a) none ∙ bind_at [] (λ fs. nodes (joined (connective op) a fs));
           come = refl;
@@ -95,7 +95,7 @@ module _ {s : Source} {R : Realm s} {mem out : List ℕ} {m : Machine} {x : Resu
         let cw = count_word h in
         let q = w.more (omega arith) in
         let p = split mem (words h).at rest (turning_held h f) t.fine some in
-        subst (λ (y : Move). Turned R mem mem' out out' m x o y) (sym q.1)
+        subst (λ (y : Stepped). Turned R mem mem' out out' m x o y) (sym q.1)
         (continues h f {G = NextEach op c i e a n p.rest} {new = Phase.next_each} {value = n} {other = 0} {fold' = []} {forms' = record { formula = a; end = n } ∷ []} {a = Expand} {c = c} {i = i} {e = e} {mem₀ = mem}
         {mem' = mem'} {out' = out'} {top = m.top} {nodes = n} {n = q.0} (record {
           words-kept = refl;
@@ -129,15 +129,15 @@ module _ {s : Source} {R : Realm s} {mem out : List ℕ} {m : Machine} {x : Resu
         go (v ∷ l) q = proceeds (let z = ap length q in omega arith)
 
 -- what function `onward` does, by whether an element is left
-pub onward-last : {mem : List ℕ} {m n : Machine} {nodes : ℕ} → left_of mem m ≡ 0 → n ≡ closed m (base_of mem m) nodes → Onward mem mem m nodes (Next n)
-onward-last e q = record { last = λ l. (refl, ap Next q); more = λ l. absurd (omega arith) }
+pub onward-last : {mem : List ℕ} {m n : Machine} {nodes : ℕ} → left_of mem m ≡ 0 → n ≡ closed m (base_of mem m) nodes → Onward mem mem m nodes (Ok (Next n))
+onward-last e q = record { last = λ l. (refl, ap (λ (y : Machine). Ok (Next y)) q); more = λ l. absurd (omega arith) }
 
 module _ {mem : List ℕ} {m w : Machine} {nodes : ℕ} (some : left_of mem m ≡ 0 → ⊥) (e : w ≡ wrote m nodes) where
   pub onward_asks : Turnable mem m nodes → Continuing mem w 0
   onward_asks t = subst (λ (y : Machine). Continuing mem y 0) (sym e) (t.next (omega arith))
 
   pub onward-more : {mem' : List ℕ} {n : Machine}
-      → Turns mem mem' w (next_at (words_at mem w.frames) Phase.next_each nodes 0) (w.depth - 1) (get_or mem (get_or mem (w.frames + at_field) 0) 0) (mode_of Expand) m.top n → Onward mem mem' m nodes (Next n)
+      → Turns mem mem' w (next_at (words_at mem w.frames) Phase.next_each nodes 0) (w.depth - 1) (get_or mem (get_or mem (w.frames + at_field) 0) 0) (mode_of Expand) m.top n → Onward mem mem' m nodes (Ok (Next n))
   onward-more {mem'} {n} t = record {
     last = λ l. absurd (some l);
     more = λ l. (

@@ -1,10 +1,11 @@
 -- 15 behind all lines, then what is handed over, is the definition's answer.
-use Rattle.std.specs.Prelude.{ℕ, ◌≤◌, Bool, List, ◌≡◌, refl, eqb, length, take}
+use Rattle.std.specs.Prelude.{ℕ, ◌≤◌, Bool, List, ◌≡◌, refl, eqb, length, take, Ok, Err}
 use Rattle.std.proofs.Common.{ap, ◌∙◌, subst, length-take-le, arith}
 use Rattle.node.specs.Ltl.{Formula}
 use Rattle.node.specs.Result.{Result, Done, Refused, ◌>>=◌}
 use Rattle.node.proofs.ResultLaws.{not_done}
-use Rattle.node.specs.declared.Answer.{Answer}
+use Rattle.node.specs.Answer.{Answer}
+use Rattle.node.specs.Returned.{refusal}
 use Rattle.language.specs.Tree.{Part, Model, Mealy, Moore, Spec}
 use Rattle.language.specs.DeclaredNames.{Declarations}
 use Rattle.language.specs.Numbering.{in_order, signal_list}
@@ -15,8 +16,8 @@ use Rattle.language.specs.Reading.{NumberedFormula, delivered}
 use Rattle.language.proofs.Laws.Values.SignalLaws.{signals_few}
 use Rattle.parser.specs.declared.Facts.{Facts}
 use Rattle.language.specs.Models.{model_code}
-use Rattle.ports.specs.declared.Signals.{Signals}
-use Rattle.ports.specs.declared.Signals.TheVariants.{Listed, TooMany}
+use Rattle.ports.specs.declared.TooMany.{TooMany}
+use Rattle.ports.specs.Signals.{Signals}
 use Rattle.assembly.specs.Gathered.{in_turn, Gathered, GatheredFrom, lines_in_turn}
 use Rattle.ending.specs.Endings.{fitted}
 use Rattle.ending.proofs.EndingsLaws.{too_many_lem, few_signals_lem}
@@ -61,15 +62,15 @@ module _ {f : Facts} {s : Signals} {words table list : List ℕ} {count at : ℕ
   made : Sectioned x d g.all
   made = sectioned x d g.turned
 
-  pub finish_many : {p : ℕ} → s ≡ TooMany p → Finishes x d nodes signals nodes signals (Answer.Refused 15 p)
+  pub finish_many : {e : TooMany} → s ≡ Err e → Finishes x d nodes signals nodes signals (Err (refusal 15 e.place))
   finish_many q = hands_refused nodes signals (too_many_lem end x d made.is (subst (λ i. Listing i d list) q g.listing))
 
   -- what is made of the formula is its conversion from the stated model to the targeted one
   finish_as : (make : List ℕ → Formula → Formula) → ((l : List ℕ) (h : Formula) → make l h ≡ adapted x.semantics x.target l h)
-      → {n : ℕ} {nodes' signals' : List ℕ} {r : Answer} → s ≡ Listed n → HandsOver make f.strict words count table at (take n list) nodes signals nodes' signals' r
+      → {n : ℕ} {nodes' signals' : List ℕ} {r : Answer} → s ≡ Ok n → HandsOver make f.strict words count table at (take n list) nodes signals nodes' signals' r
       → Finishes x d nodes signals nodes' signals' r
   finish_as make e {n} {nodes'} {signals'} {r} q o =
-      let l : Listing (Listed n) d list = subst (λ i. Listing i d list) q g.listing in
+      let l : Listing (Ok n) d list = subst (λ i. Listing i d list) q g.listing in
       let t : Gathered (in_turn made.sections) words count table at =
       subst (λ a. Gathered a words count table at) made.same (subst (λ i. GatheredFrom (start_of i) g.all words count table at) q g.gathered) in
       let strict : f.strict ≡ x.strict = ap (λ (i : Facts). i.strict) g.facts in
@@ -80,7 +81,7 @@ module _ {f : Facts} {s : Signals} {words table list : List ℕ} {count at : ℕ
       (subst (λ b. Hands (ends (signal_list (in_order d)) (make (signal_list (in_order d)) (formula b))) nodes signals nodes' signals' r) strict
       (subst (λ a. Hands (ends a (make a (formula f.strict))) nodes signals nodes' signals' r) l.1.1.0 (o.hands made.sections t))))
 
-  module _ {n : ℕ} {nodes' signals' : List ℕ} {r : Answer} (q : s ≡ Listed n) where
+  module _ {n : ℕ} {nodes' signals' : List ℕ} {r : Answer} (q : s ≡ Ok n) where
     pub finish-few : f.semantics ≡ f.target → HandsOver as_expanded f.strict words count table at (take n list) nodes signals nodes' signals' r → Finishes x d nodes signals nodes' signals' r
     finish-few h o = finish_as as_expanded (λ l k. alike x.semantics x.target l k (subst (λ (i : Facts). i.semantics ≡ i.target) g.facts h)) q o
 
@@ -91,10 +92,10 @@ module _ {f : Facts} {s : Signals} {words table list : List ℕ} {count at : ℕ
         finish_as (as_shifted outputs) (λ l k. ap (λ (b : Bool). as_shifted b l k) target ∙ unlike x.semantics x.target l k (subst (λ (i : Facts). i.semantics ≡ i.target → ⊥) g.facts h)) q o
 
 -- what the handing over asks for
-pub finish_gathering : {f : Facts} {s : Signals} {words table list : List ℕ} {count at n : ℕ} → SomeComplete f s words count table at list → s ≡ Listed n → Assemblable words count table at (take n list)
+pub finish_gathering : {f : Facts} {s : Signals} {words table list : List ℕ} {count at n : ℕ} → SomeComplete f s words count table at list → s ≡ Ok n → Assemblable words count table at (take n list)
 finish_gathering {f} {s} {words} {table} {list} {count} {at} {n} h q =
     let g = h.gathers in
-    let l : Listing (Listed n) h.d list = subst (λ i. Listing i h.d list) q g.listing in
+    let l : Listing (Ok n) h.d list = subst (λ i. Listing i h.d list) q g.listing in
     let few = signals_few 0 (in_order h.d) (omega arith) l.0 in
     record {
       gathered = record { some = g.all; gathered = subst (λ i. GatheredFrom (start_of i) g.all words count table at) q g.gathered };
@@ -102,7 +103,7 @@ finish_gathering {f} {s} {words} {table} {list} {count} {at} {n} h q =
     }
 
 -- .. and that the list has so many signals
-pub finish-listed : {f : Facts} {s : Signals} {words table list : List ℕ} {count at n : ℕ} → SomeComplete f s words count table at list → s ≡ Listed n → n ≤ length list
+pub finish-listed : {f : Facts} {s : Signals} {words table list : List ℕ} {count at n : ℕ} → SomeComplete f s words count table at list → s ≡ Ok n → n ≤ length list
 finish-listed {list = list} {n = n} h q =
-    let l : Listing (Listed n) h.d list = subst (λ i. Listing i h.d list) q h.gathers.listing in
+    let l : Listing (Ok n) h.d list = subst (λ i. Listing i h.d list) q h.gathers.listing in
     l.1.1.1

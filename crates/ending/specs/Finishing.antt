@@ -2,7 +2,7 @@
 use Rattle.std.specs.Prelude.{ℕ, List, ◌≡◌, length}
 use Rattle.node.specs.Ltl.{Formula}
 use Rattle.node.specs.Result.{Done, ◌>>=◌}
-use Rattle.node.specs.declared.Answer.{Answer}
+use Rattle.node.specs.Answer.{Answer}
 use Rattle.language.specs.Tree.{Part, Spec}
 use Rattle.language.specs.DeclaredNames.{Declarations}
 use Rattle.language.specs.Lines.{lines}
@@ -10,7 +10,7 @@ use Rattle.language.specs.Expansion.{expand}
 use Rattle.language.specs.Reading.{delivered}
 use Rattle.parser.specs.declared.Facts.{Facts}
 use Rattle.parser.specs.Outlines.{facts_of}
-use Rattle.ports.specs.declared.Signals.{Signals}
+use Rattle.ports.specs.Signals.{Signals}
 use Rattle.assembly.specs.Gathered.{GatheredFrom, lines_in_turn}
 use Rattle.ending.specs.Endings.{ended}
 use Rattle.ending.specs.Listing.{start_of, Listing}

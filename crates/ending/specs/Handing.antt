@@ -4,7 +4,7 @@ use Rattle.node.specs.Limits.{max_nodes}
 use Rattle.node.specs.Ltl.{Formula}
 use Rattle.node.specs.Result.{◌>>=◌}
 use Rattle.node.specs.Written.{count}
-use Rattle.node.specs.declared.Answer.{Answer}
+use Rattle.node.specs.Answer.{Answer}
 use Rattle.language.specs.Limits.{max_signals}
 use Rattle.language.specs.Expansion.{Sections, section, whole}
 use Rattle.language.specs.Shifting.{shifted}

@@ -1,8 +1,7 @@
 -- What a stage of the reader hands up, of what the definition gives: the answer and the result buffers after it, which are marked '.
 use Rattle.std.specs.Prelude.{ℕ, List, ◌≡◌}
 use Rattle.node.specs.Result.{Result, ◌>>=◌}
-use Rattle.node.specs.Answer.{says}
-use Rattle.node.specs.declared.Answer.{Answer}
+use Rattle.node.specs.Answer.{Answer, says}
 use Rattle.language.specs.Reading.{NumberedFormula, nodes_after, signals_after}
 use Rattle.claim.specs.Yields.{told}
 

@@ -13,9 +13,9 @@ use assembly::assemble;
 use assembly::implied::Ends;
 use basics::copy_words;
 use language::models;
-use node::{Answer, MAX_NODES, MAX_SIGNALS, refusals};
+use node::{Answer, MAX_NODES, Refusal, refusals};
 use parser::Facts;
-use ports::Signals;
+use ports::TooMany;
 use shifting::shift;
 use writing::copies::copy_out;
 
@@ -31,22 +31,33 @@ fn deliver(
     ensures { Delivers whole.now m list.now nodes.old signals.old nodes.new signals.new result }
 {
     let n = list.len();
+    // A count that went on where the table was full (head of crate writing) is refused here.
     if MAX_NODES < m {
-        return Answer::Refused(refusals::TOO_MANY_NODES, 0);
+        return Err(Refusal {
+            number: refusals::TOO_MANY_NODES,
+            place: 0,
+        });
     }
     if nodes.len() < m {
-        return Answer::Refused(refusals::SHORT_RESULT, 0);
+        return Err(Refusal {
+            number: refusals::SHORT_RESULT,
+            place: 0,
+        });
     }
     if signals.len() < n {
-        return Answer::Refused(refusals::SHORT_RESULT, 0);
+        return Err(Refusal {
+            number: refusals::SHORT_RESULT,
+            place: 0,
+        });
     }
     copy_out(whole, 0, m, nodes, 0);
     copy_words(list, n, signals);
-    Answer::Accepted(m as u32, n as u32)
+    Ok((m as u32, n as u32))
 }
 
-// The whole formula of the lines, handed over with the signal list. Lines that fit their table may make a formula that does not. A function that calls itself, which these two
-// never do, is not made part of its caller, whose frame would hold their tables while the text is expanded.
+// The whole formula of the lines, handed over with the signal list. Lines that fit their table may make a formula that does not. These two are not made part of their caller,
+// whose frame would hold their tables while the text is expanded.
+#[inline(never)]
 fn hand_over(
     strict: bool,
     lines: &[u32],
@@ -60,15 +71,13 @@ fn hand_over(
     ensures { HandsOver as_expanded strict lines.now ends.count table.now ends.at list.now nodes.old signals.old
         nodes.new signals.new result }
 {
-    if list.len() > MAX_SIGNALS {
-        return hand_over(strict, lines, ends, table, list, nodes, signals);
-    }
     let mut whole = [0u32; MAX_NODES];
     let m = assemble(strict, lines, ends.count, table, ends.at, &mut whole);
     deliver(&whole, m, list, nodes, signals)
 }
 
 // The same with an X above each output, or above each input.
+#[inline(never)]
 fn hand_over_shifted(
     outputs: bool,
     strict: bool,
@@ -83,9 +92,6 @@ fn hand_over_shifted(
     ensures { HandsOver (as_shifted outputs) strict lines.now ends.count table.now ends.at list.now nodes.old signals.old
         nodes.new signals.new result }
 {
-    if list.len() > MAX_SIGNALS {
-        return hand_over_shifted(outputs, strict, lines, ends, table, list, nodes, signals);
-    }
     let mut whole = [0u32; MAX_NODES];
     let m = assemble(strict, lines, ends.count, table, ends.at, &mut whole);
     let mut shifted = [0u32; MAX_NODES];
@@ -96,7 +102,7 @@ fn hand_over_shifted(
 // 15, which comes behind the refusals of all lines, and what follows it.
 pub fn finish(
     facts: Facts,
-    listed: Signals,
+    listed: Result<usize, TooMany>,
     lines: &[u32],
     ends: Ends,
     table: &[u32; MAX_NODES],
@@ -108,22 +114,19 @@ pub fn finish(
     ensures { (x : Spec) (d : Declarations) → Complete facts listed lines.now ends.count table.now ends.at list.now x d
         → Finishes x d nodes.old signals.old nodes.new signals.new result }
 {
-    match listed {
-        Signals::Listed(n) => {
-            if facts.semantics == facts.target {
-                return hand_over(facts.strict, lines, ends, table, &list[..n], nodes, signals);
-            }
-            hand_over_shifted(
-                facts.target == models::MOORE,
-                facts.strict,
-                lines,
-                ends,
-                table,
-                &list[..n],
-                nodes,
-                signals,
-            )
-        }
-        Signals::TooMany(place) => Answer::Refused(refusals::TOO_MANY_SIGNALS, place),
+    let n = listed?;
+    if facts.semantics == facts.target {
+        return hand_over(facts.strict, lines, ends, table, &list[..n], nodes, signals);
     }
+    let outputs = facts.target == models::MOORE;
+    hand_over_shifted(
+        outputs,
+        facts.strict,
+        lines,
+        ends,
+        table,
+        &list[..n],
+        nodes,
+        signals,
+    )
 }

@@ -1,5 +1,5 @@
 -- What the cursor's methods answer of the tokens that the buffer holds.
-use Rattle.std.specs.Prelude.{ℕ, zero, suc, ◌+◌, ◌≤◌, ◌<◌, ◌^◌, List, [], ◌∷◌, Bool, true, false, ◌≡◌, refl, ltb, eqb, drop}
+use Rattle.std.specs.Prelude.{ℕ, zero, suc, ◌+◌, ◌≤◌, ◌<◌, ◌^◌, List, [], ◌∷◌, Bool, true, false, ◌≡◌, refl, ltb, eqb, drop, Ok}
 use Rattle.std.proofs.Common.{sym, ap, ◌∙◌, add-one, arith, lt-ltb, le-ltb, ltb-true, ltb-false, eqb-true, eq-eqb, ne_eqb}
 use Rattle.words.specs.Words.{word_at}
 use Rattle.language.specs.Tokens.{End, Token, is_of}
@@ -10,7 +10,6 @@ use Rattle.lexer.specs.NumberLaws.{class_number_lem}
 use Rattle.lexer.specs.Stored.{offset_bits, token_word, number_in, offset_in}
 use Rattle.lexer.specs.StoredLaws.{number_word, offset_word}
 use Rattle.entries.specs.declared.Cursor.{Cursor}
-use Rattle.entries.specs.declared.Parse.TheVariants.{Parsed}
 use Rattle.entries.specs.Cursors.{Ready, number_at, place_at, next_of, refused_at, expected}
 
 -- a token, or the text's end
@@ -35,7 +34,7 @@ before-end w c h = go (ltb c.at c.count) refl
     go false e = let z : number_at w c ≡ 0 = number-end w c (ltb-false c.at c.count e) in absurd (omega arith)
 
 -- the number asked for, or another one
-pub expected-here : (w : List ℕ) (c : Cursor) (k : ℕ) → number_at w c ≡ k → expected w c k ≡ Parsed (next_of c)
+pub expected-here : (w : List ℕ) (c : Cursor) (k : ℕ) → number_at w c ≡ k → expected w c k ≡ Ok (next_of c)
 expected-here w c k e = pick (eqb (number_at w c) k) _ _ (eq-eqb (number_at w c) k e)
 
 pub expected-not : (w : List ℕ) (c : Cursor) (k : ℕ) → (number_at w c ≡ k → ⊥) → expected w c k ≡ refused_at w c

@@ -1,5 +1,6 @@
 -- Where the parser stands, and what its cursor's methods answer, as functions of the buffer.
-use Rattle.std.specs.Prelude.{ℕ, ◌+◌, ◌≤◌, ◌<◌, List, true, ◌≡◌, ltb, eqb, length, drop}
+use Rattle.std.specs.Prelude.{ℕ, ◌+◌, ◌≤◌, ◌<◌, List, true, ◌≡◌, ltb, eqb, length, drop, Ok, Err}
+use Rattle.node.specs.Returned.{refusal}
 use Rattle.words.specs.Words.{word_at}
 use Rattle.language.specs.Bytes.{if◌then◌otherwise◌}
 use Rattle.language.specs.Limits.{max_bytes, max_tokens, work_bytes}
@@ -8,8 +9,7 @@ use Rattle.language.specs.Grammar.{Tokens, front}
 use Rattle.lexer.specs.Stored.{TokensStored, number_in, offset_in}
 use Rattle.entries.specs.Kinds as Kind
 use Rattle.entries.specs.declared.Cursor.{Cursor}
-use Rattle.entries.specs.declared.Parse.{Parse}
-use Rattle.entries.specs.declared.Parse.TheVariants.{Parsed, Refused}
+use Rattle.entries.specs.Parse.{Parse}
 
 -- the buffer has room, the numbers are within document 01's limits
 pub record Fits (w : List ℕ) (c : Cursor) : Type 0 where
@@ -53,11 +53,11 @@ emitted_of c = record { at = c.at; out = c.out + 1; count = c.count; end = c.end
 
 -- 'first token that no accepted grammar continues': refusal 4
 abbrev pub refused_at : List ℕ → Cursor → Parse
-refused_at w c = Refused 4 (place_at w c)
+refused_at w c = Err (refusal 4 (place_at w c))
 
 -- past the next token if it has the number, else refused
 abbrev pub expected : List ℕ → Cursor → ℕ → Parse
-expected w c k = if eqb (number_at w c) k then Parsed (next_of c) otherwise refused_at w c
+expected w c k = if eqb (number_at w c) k then Ok (next_of c) otherwise refused_at w c
 
 -- what an entry asks for
 pub record Writes (w : List ℕ) (c : Cursor) (kind index size : ℕ) : Type 0 where

@@ -4,6 +4,7 @@ pub mod Flat
 pub mod FlatLaws
 pub mod Stored
 pub mod StoredLaws
+pub mod Parse
 pub mod Cursors
 pub mod CursorLaws
 pub mod Reads

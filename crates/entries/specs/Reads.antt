@@ -1,5 +1,6 @@
 -- One contract for every function of the parser: it reads what a definition of the grammar reads, and writes the entries of what is read.
-use Rattle.std.specs.Prelude.{ℕ, ◌+◌, ◌≤◌, ◌<◌, List, [], ◌≡◌, length, drop}
+use Rattle.std.specs.Prelude.{ℕ, ◌+◌, ◌≤◌, ◌<◌, List, [], ◌≡◌, length, drop, Ok, Err}
+use Rattle.node.specs.Returned.{refusal}
 use Rattle.node.specs.Result.{Done, Refused}
 use Rattle.words.specs.Words.{word_at, past}
 use Rattle.language.specs.Limits.{work_bytes}
@@ -7,8 +8,7 @@ use Rattle.language.specs.Grammar.{Tokens, Read}
 use Rattle.entries.specs.Flat.{Entry}
 use Rattle.entries.specs.Stored.{first_entry, EntriesFrom}
 use Rattle.entries.specs.declared.Cursor.{Cursor}
-use Rattle.entries.specs.declared.Parse.{Parse}
-use Rattle.entries.specs.declared.Parse.TheVariants.{Parsed, Refused as NotParsed}
+use Rattle.entries.specs.Parse.{Parse}
 use Rattle.entries.specs.Cursors.{Ready}
 
 -- the buffer v after the buffer w: tokens, the first `out` entries and everything beyond the work buffer stay
@@ -34,14 +34,14 @@ pub record Took (ts : Tokens) (v : List ℕ) (s d : Cursor) (es : List Entry) : 
 -- the tokens us are left
 pub record Reached (ts : Tokens) (v : List ℕ) (s : Cursor) (es : List Entry) (us : Tokens) (r : Parse) : Type 0 where
   pub cursor : Cursor
-  pub parsed : r ≡ Parsed cursor
+  pub parsed : r ≡ Ok cursor
   pub left : us ≡ drop cursor.at ts
   pub took : Took ts v s cursor es
 
 -- the code's answer r against the definition's
 abbrev pub Outcome : {A : Type 0} → Tokens → List ℕ → Cursor → (A → List Entry) → Read A → Parse → Type 0
 Outcome ts v s f (Done x) r = Reached ts v s (f x.0) x.1 r
-Outcome ts v s f (Refused n p) r = r ≡ NotParsed n p
+Outcome ts v s f (Refused n p) r = r ≡ Err (refusal n p)
 
 -- From the cursor s on, the buffer w became v and the answer was r, where the definition answers x, of which f gives the entries.
 pub record Reads {A : Type 0} (ts : Tokens) (w v : List ℕ) (s : Cursor) (f : A → List Entry) (x : Read A) (r : Parse) : Type 0 where

@@ -1,19 +1,19 @@
--- How the contracts of the parser's functions are put together. Two laws carry every let-else: a refusal that is handed up, and an accepted part with what is
+-- How the contracts of the parser's functions are put together. Two laws carry every `?`: a refusal that is handed up, and an accepted part with what is
 -- read behind it; the others begin and end such a chain.
-use Rattle.std.specs.Prelude.{ℕ, ◌+◌, ◌≤◌, ◌<◌, List, ◌≡◌}
+use Rattle.std.specs.Prelude.{ℕ, ◌+◌, ◌≤◌, ◌<◌, List, ◌≡◌, Ok, Err}
 use Rattle.std.proofs.Common.{arith, sym, ◌∙◌}
 use Rattle.std.proofs.Math.Path.{refl, ap, subst}
 use Rattle.std.proofs.Math.ListN.{drop}
+use Rattle.node.specs.Returned.{refusal}
 use Rattle.node.specs.Result.{Done, Refused, ◌>>=◌}
 use Rattle.words.specs.Words.{put_word}
 use Rattle.words.specs.WordLaws.{length-put, word_other, past-put}
 use Rattle.language.specs.Limits.{work_bytes}
-use Rattle.language.specs.Grammar.{Tokens, Read, rest, stop}
+use Rattle.language.specs.Grammar.{Tokens, Read, stop}
 use Rattle.entries.specs.Flat.{Entry}
 use Rattle.entries.specs.Stored.{work_words, first_entry, entry_word, put_entry}
 use Rattle.entries.specs.declared.Cursor.{Cursor}
-use Rattle.entries.specs.declared.Parse.{Parse}
-use Rattle.entries.specs.declared.Parse.TheVariants.{Parsed, Refused as NotParsed}
+use Rattle.entries.specs.Parse.{Parse}
 use Rattle.entries.specs.Cursors.{Ready, next_of, emitted_of, refused_at}
 use Rattle.entries.specs.CursorLaws.{ready-place}
 use Rattle.entries.specs.Reads.{Kept, Onward, Took, Outcome, Reads}
@@ -65,21 +65,21 @@ pub onward-next : (c : Cursor) → Onward c (next_of c)
 onward-next c = record { count = refl; end = refl; further = omega arith; slack = omega arith }
 
 -- an answer is accepted or refused
-never : {d : Cursor} {n p : ℕ} → Parsed d ≡ NotParsed n p → ⊥
+never : {d : Cursor} {n p : ℕ} → ◌≡◌ {A = Parse} (Ok d) (Err (refusal n p)) → ⊥
 never e = let z : ◌≡◌ {A = ℕ} 0 1 = cc in omega arith
 
 module _ {A B : Type 0} {ts : Tokens} {w v : List ℕ} {s c : Cursor} {f : A → List Entry} {h : B → List Entry} (x : Read A) (K : A × Tokens → Read B) (from : s.out ≤ c.out) where
   -- a refusal is handed up
-  pub read-refused : {r : Parse} {n p : ℕ} → r ≡ NotParsed n p → Reads ts w v c f x r → Reads ts w v s h (x >>= K) r
+  pub read-refused : {r : Parse} {n p : ℕ} → r ≡ Err (refusal n p) → Reads ts w v c f x r → Reads ts w v s h (x >>= K) r
   unfolding ◌>>=◌
   read-refused e g = record { kept = kept_fewer from g.kept; says = go x e g.says }
     where
-      go : (y : Read A) {r : Parse} {n p : ℕ} → r ≡ NotParsed n p → Outcome ts v c f y r → Outcome ts v s h (y >>= K) r
+      go : (y : Read A) {r : Parse} {n p : ℕ} → r ≡ Err (refusal n p) → Outcome ts v c f y r → Outcome ts v s h (y >>= K) r
       go (Done a) e o = absurd (never (sym o.parsed ∙ e))
       go (Refused n p) e o = o
 
   -- an accepted part, then the rest
-  pub read_then : {z : List ℕ} {q r : Parse} {d : Cursor} → q ≡ Parsed d → Reads ts w v c f x q
+  pub read_then : {z : List ℕ} {q r : Parse} {d : Cursor} → q ≡ Ok d → Reads ts w v c f x q
       → ((a : A) → x ≡ Done (a, drop d.at ts) → Took ts v c d (f a) → Reads ts v z s h (K (a, drop d.at ts)) r) → Reads ts w z s h (x >>= K) r
   unfolding ◌>>=◌
   read_then {z} {q} {r} {d} e g then = go x refl g.says
@@ -94,11 +94,11 @@ module _ {A B : Type 0} {ts : Tokens} {w v : List ℕ} {s c : Cursor} {f : A →
 
 -- the end of a chain: accepted, or refused here
 module _ {B : Type 0} {ts : Tokens} {w : List ℕ} {s c : Cursor} {h : B → List Entry} where
-  pub read_done : (b : B) → Took ts w s c (h b) → Reads ts w w s h (Done (b, drop c.at ts)) (Parsed c)
+  pub read_done : (b : B) → Took ts w s c (h b) → Reads ts w w s h (Done (b, drop c.at ts)) (Ok c)
   read_done b t = record { kept = kept_same w s.out; says = record { cursor = c; parsed = refl; left = refl; took = t } }
 
   pub read-stop : Ready ts w c → Reads ts w w s h (stop (drop c.at ts)) (refused_at w c)
-  read-stop r = record { kept = kept_same w s.out; says = ap (NotParsed 4) (ready-place r) }
+  read-stop r = record { kept = kept_same w s.out; says = ap (λ (p : ℕ). Err (refusal 4 p)) (ready-place r) }
 
 -- buffer changes before the rest
 pub read-after : {B : Type 0} {ts : Tokens} {w v z : List ℕ} {s : Cursor} {h : B → List Entry} (x : Read B) {r : Parse} → Kept w v s.out → Reads ts v z s h x r → Reads ts w z s h x r

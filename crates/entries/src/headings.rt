@@ -2,6 +2,7 @@
 ghost use Rattle.std.specs.Prelude.{◌≡◌};
 ghost use Rattle.entries.specs.Headings.{headings as headings'};
 
+// Numbers and no enum: an entry's word in the work buffer holds them, and Headings states them.
 pub const INPUTS: u32 = 0;
 
 pub const OUTPUTS: u32 = 1;

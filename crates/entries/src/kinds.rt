@@ -2,6 +2,7 @@
 ghost use Rattle.std.specs.Prelude.{◌≡◌};
 ghost use Rattle.entries.specs.Kinds.{kinds as kinds'};
 
+// Numbers and no enum: an entry's word in the work buffer holds them, the definitions compare them by size, and Kinds states them.
 // Leaves, an index and a parenthesis.
 pub const NAMED: u32 = 0;
 

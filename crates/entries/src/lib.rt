@@ -13,7 +13,7 @@ ghost use Rattle.entries.specs.Cursors.{Fits, Writes, number_at, place_at, next_
 
 use fields::{FIRST_ENTRY, SIZES, TOKENS};
 use lexer::fields::{LENGTHS, OFFSETS};
-use node::refusals;
+use node::{Refusal, refusals};
 use words::{get, put};
 
 // The next token's index, how many entries are written; how many tokens there are, and the text's length.
@@ -25,11 +25,8 @@ pub struct Cursor {
     pub end: usize,
 }
 
-#[derive(Clone, Copy)]
-pub enum Parse {
-    Parsed(Cursor),
-    Refused(u32, u32),
-}
+// What a function of the parser returns: where it has read on to, or a refusal.
+pub type Parse = Result<Cursor, Refusal>;
 
 // The functions of the parser have requirements: none is called but by the reader, whose own contract asks for nothing.
 impl Cursor {
@@ -93,7 +90,10 @@ impl Cursor {
         requires { Fits work.now self }
         ensures { result ≡ refused_at work.now self }
     {
-        Parse::Refused(refusals::NOT_GRAMMAR, self.place(work))
+        Err(Refusal {
+            number: refusals::NOT_GRAMMAR,
+            place: self.place(work),
+        })
     }
 
     // Past the next token, which must have this number; the text's end has none behind it.
@@ -102,7 +102,7 @@ impl Cursor {
         ensures { result ≡ expected work.now self number }
     {
         if self.number(work) == number {
-            return Parse::Parsed(self.next());
+            return Ok(self.next());
         }
         self.refuse(work)
     }

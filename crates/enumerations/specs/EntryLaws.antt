@@ -36,8 +36,7 @@ use Rattle.traversal.specs.Cells.{Seen, cell_at, TokensTell}
 use Rattle.traversal.specs.CellLaws.{entries-seen}
 use Rattle.traversal.specs.PassLaws.{run}
 use Rattle.traversal.specs.PassedLaws.{passed-all}
-use Rattle.traversal.specs.declared.Place.{Place}
-use Rattle.traversal.specs.Places.{placed}
+use Rattle.traversal.specs.Places.{Place, placed}
 use Rattle.traversal.specs.TreeStored.{TreeStored}
 use Rattle.enumerations.specs.Given.{Spells, GoodDefinition}
 use Rattle.enumerations.specs.Promise.{WrongWords}

@@ -4,9 +4,8 @@ use Rattle.language.specs.Tree.{Spec}
 use Rattle.language.specs.Grammar.{Tokens}
 use Rattle.language.specs.Words.{wrong_words}
 use Rattle.language.specs.Lists.{All}
-use Rattle.traversal.specs.declared.Place.{Place}
 use Rattle.traversal.specs.Cells.{TokensTell}
-use Rattle.traversal.specs.Places.{placed}
+use Rattle.traversal.specs.Places.{Place, placed}
 use Rattle.traversal.specs.TreeStored.{TreeStored}
 use Rattle.enumerations.specs.Given.{Spells, GoodDefinition}
 

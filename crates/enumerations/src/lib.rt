@@ -16,7 +16,7 @@ ghost use Rattle.enumerations.specs.Clashes.{clash_rows, Clashable};
 use entries::kinds;
 use language::limits;
 use lexer::fields::{LENGTHS, OFFSETS};
-use traversal::{Place, cell_at};
+use traversal::{cell_at, first};
 
 // The marks of a row: as many as a word has at most.
 pub const MARKS: usize = limits::MAX_MARKS as usize;
@@ -31,7 +31,7 @@ pub struct Progress {
     pub count: usize,
     pub size: u32,
     pub closed: bool,
-    pub found: Place,
+    pub found: Option<u32>,
 }
 
 // A byte of the text, 0 behind its end.
@@ -53,10 +53,8 @@ pub fn marks(text: &[u8], at: usize, n: usize) -> [u8; MARKS]
     ensures { (take n result ≡ bytes_at text.now at n) × (length result ≡ max_marks) }
 {
     let mut row = [0u8; MARKS];
-    let mut i = 0;
-    while i < n {
+    for i in 0..n {
         row[i] = byte_at(text, at + i);
-        i += 1;
     }
     row
 }
@@ -66,23 +64,12 @@ fn meets(a: [u8; MARKS], b: [u8; MARKS], n: usize) -> bool
     requires { (n ≤ max_marks) × (length a ≡ max_marks) × (length b ≡ max_marks) }
     ensures { result ≡ meet (take n a) (take n b) }
 {
-    let mut i = 0;
-    while i < n {
+    for i in 0..n {
         let x = a[i];
         let y = b[i];
-        if x == y {
-            i += 1;
-            continue;
+        if x != y && x != STAR && y != STAR {
+            return false;
         }
-        if x == STAR {
-            i += 1;
-            continue;
-        }
-        if y == STAR {
-            i += 1;
-            continue;
-        }
-        return false;
     }
     true
 }
@@ -99,17 +86,10 @@ fn clashes(
     requires { Clashable owners.now rows.now count row n }
     ensures { result ≡ clash_rows n owner (take n row) (take count owners.now) (take count rows.now) }
 {
-    let mut i = 0;
-    while i < count {
-        if owners[i] == owner {
-            i += 1;
-            continue;
-        }
-        let earlier = rows[i];
-        if meets(earlier, row, n) {
+    for i in 0..count {
+        if owners[i] != owner && meets(rows[i], row, n) {
             return true;
         }
-        i += 1;
     }
     false
 }
@@ -118,14 +98,10 @@ fn clashes(
 fn shut(p: Progress, place: u32) -> Progress
     ensures { result ≡ shut_at p place }
 {
-    let before = p.found;
-    let found = before.first(Place::At(place));
     Progress {
-        owner: p.owner,
-        count: p.count,
-        size: p.size,
         closed: true,
-        found: found,
+        found: first(p.found, Some(place)),
+        ..p
     }
 }
 
@@ -163,13 +139,11 @@ fn word(
     }
     rows[count] = row;
     owners[count] = p.owner;
-    let found = p.found;
     Progress {
-        owner: p.owner,
         count: count + 1,
-        size: size,
+        size,
         closed: false,
-        found: found,
+        ..p
     }
 }
 
@@ -187,23 +161,19 @@ fn pass(
 {
     let c = cell_at(work, i);
     let kind = c.kind;
-    let found = p.found;
     if kind == kinds::ENUMERATION {
         return Progress {
             owner: 0,
             count: 0,
             size: 0,
             closed: false,
-            found: found,
+            ..p
         };
     }
     if kind == kinds::IDENTIFIER {
         return Progress {
             owner: p.owner + 1,
-            count: p.count,
-            size: p.size,
-            closed: p.closed,
-            found: found,
+            ..p
         };
     }
     if kind == kinds::WORD {
@@ -213,7 +183,7 @@ fn pass(
 }
 
 // The first place of refusal 10, if there is one.
-pub fn wrong_words(text: &[u8], work: &[u8], entries: usize) -> Place
+pub fn wrong_words(text: &[u8], work: &[u8], entries: usize) -> Option<u32>
     requires { (work_bytes ≤ length work.now) × (entries ≤ max_tokens) }
     ensures { WrongWords text.now work.now entries result }
 {
@@ -224,12 +194,10 @@ pub fn wrong_words(text: &[u8], work: &[u8], entries: usize) -> Place
         count: 0,
         size: 0,
         closed: false,
-        found: Place::Nowhere,
+        found: None,
     };
-    let mut i = 0;
-    while i < entries {
+    for i in 0..entries {
         p = pass(text, work, i, p, &mut owners, &mut rows);
-        i += 1;
     }
     p.found
 }

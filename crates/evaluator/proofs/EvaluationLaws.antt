@@ -1,5 +1,5 @@
 -- The ways to the evaluator's answer, what an accepted answer has, and how the rows in the buffer make the promises of Evaluation.
-use Rattle.std.specs.Prelude.{ℕ, ◌*◌, ◌-◌, ◌≤◌, ◌<◌, ◌≡◌, Bool, ◌↔◌, List, leb, get_or}
+use Rattle.std.specs.Prelude.{ℕ, ◌*◌, ◌-◌, ◌≤◌, ◌<◌, ◌≡◌, Bool, ◌↔◌, List, leb, get_or, Err}
 use Rattle.std.proofs.Math.Path.{sym, ap}
 use Rattle.std.proofs.Common.{ap₂, ◌∙◌, subst, add-zero, arith, leb-true, le-leb}
 use Rattle.std.proofs.Math.Bool.{So}
@@ -9,11 +9,12 @@ use Rattle.std.proofs.lemmas.Bool.{lt-leb}
 use Rattle.node.proofs.LogicLaws.{so_same}
 use Rattle.node.specs.Result.{Result, Done, guard, ◌>>=◌, Counts}
 use Rattle.node.proofs.ResultLaws.{guard-pass, guard-stop, guard-done, bind_done, not_done}
-use Rattle.node.specs.Answer.{says}
+use Rattle.node.specs.Answer.{Answer, says}
+use Rattle.node.specs.Returned.{Returned}
 use Rattle.node.specs.Table.{checked, tree_at, NodeHolds}
 use Rattle.node.specs.Formed.{Formed}
 use Rattle.node.proofs.TableLaws.{checked-done}
-use Rattle.node.specs.declared.Answer.{Answer}
+use Rattle.node.specs.declared.Refusal.{Refusal}
 use Rattle.recordings.specs.Limits.{max_signals, max_positions}
 use Rattle.rows.specs.Memory.{rows_limit}
 use Rattle.bits.specs.Bits.{bit_at, width}
@@ -27,7 +28,7 @@ use Rattle.recordings.specs.Promise.{Recorded}
 use Rattle.evaluator.specs.Evaluated.{Evaluated, Table}
 use Rattle.evaluator.proofs.EvaluatedLaws.{trees_of, offset_fits, before-row}
 use Rattle.evaluator.specs.Listed.{listed}
-use Rattle.evaluator.specs.Evaluation.{rows_size, whole, evaluation, left, finds, unjudged, verdict_of}
+use Rattle.evaluator.specs.Evaluation.{rows_size, whole, evaluation, left, finds, verdict_of}
 use Rattle.evaluator.specs.Promise.{bit_of_row, RowsHold, Evaluates, Judges}
 use Rattle.recordings.specs.declared.Lasso.{Lasso}
 use Rattle.evaluator.specs.declared.Verdict.{Verdict}
@@ -144,11 +145,11 @@ table_of nodes signals bs old o e = subst (λ w. Table nodes bs w old) (sym e) (
         let l = o.reads.whole in
         record { loop = h.loop; few = h.few; small = omega arith; room = omega arith }
 
-pub refuses : (nodes : List ℕ) (signals : ℕ) (bs old : List ℕ) {t : Answer} {x y : ℕ} → says t ≡ evaluation nodes signals bs (length old) → t ≡ Answer.Refused x y
-    → Evaluates t nodes signals bs old old
-refuses nodes signals bs old h e =
-    let r : evaluation nodes signals bs (length old) ≡ Result.Refused _ _ = sym h ∙ ap says e in
-    record { answer = h; buffer = sym (ap (left nodes bs old) r); holds = λ c d. absurd (not_done (sym (ap says e) ∙ d)) }
+pub refuses : (nodes : List ℕ) (signals : ℕ) (bs old : List ℕ) {t u : Answer} {r : Refusal} → says t ≡ evaluation nodes signals bs (length old) → t ≡ Err r → u ≡ Err r
+    → Evaluates u nodes signals bs old old
+refuses nodes signals bs old h e g =
+    let q : evaluation nodes signals bs (length old) ≡ Result.Refused _ _ = sym h ∙ ap says e in
+    record { answer = ap says g ∙ sym q; buffer = sym (ap (left nodes bs old) q); holds = λ c d. absurd (not_done (sym (ap says g) ∙ d)) }
 
 module _ (nodes : List ℕ) (signals : ℕ) (bs old new : List ℕ) where
   rows_hold : Opens nodes signals bs (length old) → Evaluated bs (lasso_of bs) nodes (length nodes) old new → RowsHold nodes bs new
@@ -203,21 +204,17 @@ verdict_means nodes signals bs room e =
     subst (λ x. So x ↔ NodeHolds nodes (length nodes - 1) (recorded bs) 0) (done-bool p.2)
     (row-right w.n w.l (letter_of bs w.k) h.loop (tree_at nodes (length nodes - 1)) 0 h.some)
 
--- a refusal that is handed up
-pub unjudged_refusal : {t : Answer} {v : Verdict} {x y : ℕ} → t ≡ Answer.Refused x y → v ≡ unjudged t → v ≡ Verdict.Refused x y
-unjudged_refusal q h = h ∙ ap unjudged q
-
 module _ (nodes : List ℕ) (signals : ℕ) (bs old new : List ℕ) {t : Answer} (e : Evaluates t nodes signals bs old new) where
-  judges_refusal : {x y : ℕ} → t ≡ Answer.Refused x y → Judges (Verdict.Refused x y) nodes signals bs old new
+  judges_refusal : {x : Refusal} → t ≡ Err x → Judges (Err x) nodes signals bs old new
   unfolding verdict_of ◌>>=◌
   judges_refusal q =
       let r : evaluation nodes signals bs (length old) ≡ Result.Refused _ _ = sym e.answer ∙ ap says q in
       record { answer = sym (ap (λ x. x >>= (λ counts. Done (node_row bs (lasso_of bs) nodes (length nodes - 1) 0))) r); buffer = e.buffer; holds = λ b d. absurd (not_done d); rows = λ b d. absurd (not_done d) }
 
-  pub judges_handed : {x y : ℕ} {v : Verdict} → t ≡ Answer.Refused x y → v ≡ unjudged t → Judges v nodes signals bs old new
-  judges_handed q h = subst (λ (u : Verdict). Judges u nodes signals bs old new) (sym (unjudged_refusal q h)) (judges_refusal q)
+  pub judges_handed : {x : Refusal} {v : Returned Verdict} → t ≡ Err x → v ≡ Err x → Judges v nodes signals bs old new
+  judges_handed q h = subst (λ (u : Returned Verdict). Judges u nodes signals bs old new) (sym h) (judges_refusal q)
 
-  pub judges : {c : Counts} (v : Verdict) {b d : Bool} {lasso : Lasso} → says t ≡ Done c → lasso ≡ lasso_of bs → d ≡ bit_at new (8 * (width lasso.n * (length nodes - 1))) → d ≡ b
+  pub judges : {c : Counts} (v : Returned Verdict) {b d : Bool} {lasso : Lasso} → says t ≡ Done c → lasso ≡ lasso_of bs → d ≡ bit_at new (8 * (width lasso.n * (length nodes - 1))) → d ≡ b
       → finds v ≡ Done b → Judges v nodes signals bs old new
   unfolding verdict_of ◌>>=◌
   judges {c} v {b} q lasso-is bit bit_is f =

@@ -1,9 +1,9 @@
 -- The evaluator's answer, its buffer and its verdict (document 01, 'Recordings' and 'Refusals with their places'; document 02, F-5).
 -- Laws in EvaluationLaws.
-use Rattle.std.specs.Prelude.{ℕ, ◌*◌, ◌-◌, Bool, true, false, List, ◌++◌, leb, length, drop}
+use Rattle.std.specs.Prelude.{ℕ, ◌*◌, ◌-◌, Bool, true, false, List, ◌++◌, leb, length, drop, Ok, Err}
 use Rattle.node.specs.Result.{Result, Done, guard, ◌>>=◌, Counts}
 use Rattle.node.specs.Table.{checked}
-use Rattle.node.specs.declared.Answer.{Answer}
+use Rattle.node.specs.Returned.{Returned}
 use Rattle.recordings.specs.Limits.{max_signals}
 use Rattle.bits.specs.Bits.{width}
 use Rattle.recordings.specs.Recording.{lasso_of, readable}
@@ -30,16 +30,11 @@ abbrev pub left : List ℕ → List ℕ → List ℕ → Result Counts → List 
 left nodes bs old (Done counts) = table_bytes bs (lasso_of bs) nodes (length nodes) ++ drop (rows_size nodes bs) old
 left nodes bs old (Result.Refused number place) = old
 
--- what a `Verdict` says: does the root hold at position 0, or a refusal
-abbrev pub finds : Verdict → Result Bool
-finds Verdict.Holds = Done true
-finds Verdict.Fails = Done false
-finds (Verdict.Refused number place) = Result.Refused number place
-
--- a refusal met below, 'handed up unchanged': 0 where there is none, which no caller asks
-abbrev pub unjudged : Answer → Verdict
-unjudged (Answer.Refused number place) = Verdict.Refused number place
-unjudged (Answer.Accepted nodes signals) = Verdict.Refused 0 0
+-- what is answered: does the root hold at position 0, or a refusal
+abbrev pub finds : Returned Verdict → Result Bool
+finds (Ok Verdict.Holds) = Done true
+finds (Ok Verdict.Fails) = Done false
+finds (Err r) = Result.Refused r.number r.place
 
 -- 'The verdict is the root at position 0'
 unfoldable pub verdict_of : List ℕ → ℕ → List ℕ → ℕ → Result Bool

@@ -1,10 +1,10 @@
 -- What `evaluate` and `judge` promise.
 use Rattle.std.specs.Prelude.{ℕ, ◌+◌, ◌*◌, ◌-◌, ◌<◌, ◌≡◌, Bool, ◌↔◌, List, length}
 use Rattle.std.proofs.Math.Bool.{So}
-use Rattle.node.specs.Result.{Done, ◌>>=◌, Counts}
-use Rattle.node.specs.Answer.{says}
+use Rattle.node.specs.Result.{Done, Counts}
+use Rattle.node.specs.Answer.{Answer, says}
+use Rattle.node.specs.Returned.{Returned}
 use Rattle.node.specs.Table.{NodeHolds}
-use Rattle.node.specs.declared.Answer.{Answer}
 use Rattle.bits.specs.Bits.{bit_at, width}
 use Rattle.recordings.specs.Recording.{lasso_of}
 use Rattle.recordings.specs.Lasso.{recorded}
@@ -27,7 +27,7 @@ pub record Evaluates (r : Answer) (nodes : List ℕ) (signals : ℕ) (bs old new
   pub holds : (counts : Counts) → says r ≡ Done counts → RowsHold nodes bs new
 
 -- what `judge` promises
-pub record Judges (r : Verdict) (nodes : List ℕ) (signals : ℕ) (bs old new : List ℕ) : Type 0 where
+pub record Judges (r : Returned Verdict) (nodes : List ℕ) (signals : ℕ) (bs old new : List ℕ) : Type 0 where
   pub answer : finds r ≡ verdict_of nodes signals bs (length old)
   pub buffer : new ≡ left nodes bs old (evaluation nodes signals bs (length old))
   pub holds : (b : Bool) → finds r ≡ Done b → So b ↔ NodeHolds nodes (length nodes - 1) (recorded bs) 0

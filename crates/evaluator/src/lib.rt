@@ -6,20 +6,19 @@ ghost use Rattle.std.specs.Prelude.{◌≡◌, ◌≤◌, length};
 ghost use Rattle.node.specs.Answer.{says};
 ghost use Rattle.node.specs.Limits.{max_signals};
 ghost use Rattle.evaluator.specs.Evaluated.{Evaluated, RowDone, Turn, Table};
-ghost use Rattle.evaluator.specs.Evaluation.{evaluation, unjudged as unjudged'};
+ghost use Rattle.evaluator.specs.Evaluation.{evaluation};
 ghost use Rattle.evaluator.specs.Promise.{Evaluates, Judges};
 
 use bits::get_bit;
-use node::{Answer, Node, refusals};
+use node::{Answer, Node, Refusal, refusals};
 use recordings::{Lasso, MAX_SIGNALS, check_recording, read_lasso};
 use rows::{Op, copy_row, fill_row};
 
-// The root at position 0, or a refusal with number and place.
-#[derive(Clone, Copy)]
+// The root at position 0.
+#[derive(Clone, Copy, PartialEq, Eq)]
 pub enum Verdict {
     Holds,
     Fails,
-    Refused(u32, u32),
 }
 
 // The row of node i, from the rows of the nodes before it.
@@ -75,15 +74,12 @@ fn fill(nodes: &[u32], recording: &[u8], lasso: Lasso, rows: &mut [u8])
     requires { Table nodes.now recording.now lasso rows.old }
     ensures { Evaluated recording.now lasso nodes.now (length nodes.now) rows.old rows.new }
 {
-    let root = nodes.len() - 1;
     let mut seen: [usize; SLOTS] = [0; SLOTS];
-    let mut i = 0;
-    while i <= root {
+    for i in 0..nodes.len() {
         let s = slot(nodes[i]);
         let j = seen[s];
         row_like(nodes, recording, lasso, i, j, rows);
         seen[s] = i;
-        i += 1;
     }
 }
 
@@ -92,62 +88,54 @@ fn examine(nodes: &[u32], signals: u32, recording: &[u8], room: usize) -> Answer
     ensures { says result ≡ evaluation nodes.now signals recording.now room }
 {
     if MAX_SIGNALS < signals {
-        return Answer::Refused(refusals::TOO_MANY_SIGNALS, 0);
+        return Err(Refusal {
+            number: refusals::TOO_MANY_SIGNALS,
+            place: 0,
+        });
     }
-    let table = node::check_table(nodes, signals);
-    let Answer::Accepted(count, _) = table else {
-        return table;
-    };
-    let heading = check_recording(recording, signals);
-    let Answer::Accepted(n, k) = heading else {
-        return heading;
-    };
+    let (count, limit) = node::check_table(nodes, signals)?;
+    let (n, k) = check_recording(recording, signals)?;
     if k < signals {
-        return Answer::Refused(refusals::UNRECORDED_SIGNALS, 0);
+        return Err(Refusal {
+            number: refusals::UNRECORDED_SIGNALS,
+            place: 0,
+        });
     }
     let w = (n as usize + 7) / 8;
     if room < w * (count as usize) {
-        return Answer::Refused(refusals::SHORT_RESULT, 0);
+        return Err(Refusal {
+            number: refusals::SHORT_RESULT,
+            place: 0,
+        });
     }
-    table
+    Ok((count, limit))
 }
 
 // Fills a row for each node, or refuses and writes nothing.
 pub fn evaluate(nodes: &[u32], signals: u32, recording: &[u8], rows: &mut [u8]) -> Answer
     ensures { Evaluates result nodes.now signals recording.now rows.old rows.new }
 {
-    let answer = examine(nodes, signals, recording, rows.len());
-    let Answer::Accepted(_, _) = answer else {
-        return answer;
-    };
+    let counts = examine(nodes, signals, recording, rows.len())?;
     let lasso = read_lasso(recording);
     fill(nodes, recording, lasso, rows);
-    answer
-}
-
-// A refused answer as a verdict, for callers that hand it up.
-pub fn unjudged(answer: Answer) -> Verdict
-    ensures { result ≡ unjudged' answer }
-{
-    match answer {
-        Answer::Refused(number, place) => Verdict::Refused(number, place),
-        Answer::Accepted(_, _) => Verdict::Refused(0, 0),
-    }
+    Ok(counts)
 }
 
 // Fills the rows and tells whether the root holds at position 0.
-pub fn judge(nodes: &[u32], signals: u32, recording: &[u8], rows: &mut [u8]) -> Verdict
+pub fn judge(
+    nodes: &[u32],
+    signals: u32,
+    recording: &[u8],
+    rows: &mut [u8],
+) -> Result<Verdict, Refusal>
     ensures { Judges result nodes.now signals recording.now rows.old rows.new }
 {
-    let answer = evaluate(nodes, signals, recording, rows);
-    let Answer::Accepted(_, _) = answer else {
-        return unjudged(answer);
-    };
+    evaluate(nodes, signals, recording, rows)?;
     let lasso = read_lasso(recording);
     let w = (lasso.n + 7) / 8;
     let last = nodes.len() - 1;
     if get_bit(rows, 8 * (w * last)) {
-        return Verdict::Holds;
+        return Ok(Verdict::Holds);
     }
-    Verdict::Fails
+    Ok(Verdict::Fails)
 }

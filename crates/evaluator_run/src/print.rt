@@ -3,8 +3,8 @@ ghost use Rattle.std.specs.Prelude.{◌++◌, OnOk, codes};
 ghost use Rattle.std.specs.Fmt.{decimal};
 ghost use Rattle.std.specs.Io.KnownBytes.{Appends};
 
-use basics::u8_u64::wide;
 use evaluator::Verdict;
+use node::Refusal;
 use std::io::{self, Write};
 
 // Writes a line.
@@ -24,11 +24,11 @@ fn counts<W: Write>(to: &mut W, word: &[u8], first: u32, second: u32) -> io::Res
 }
 
 // Writes a verdict, a refusal with its two numbers.
-pub fn verdict(to: &mut impl Write, verdict: Verdict) -> io::Result<()> {
-    match verdict {
-        Verdict::Holds => text(to, b"holds"),
-        Verdict::Fails => text(to, b"fails"),
-        Verdict::Refused(number, place) => counts(to, b"refused ", number, place),
+pub fn verdict(to: &mut impl Write, found: Result<Verdict, Refusal>) -> io::Result<()> {
+    match found {
+        Ok(Verdict::Holds) => text(to, b"holds"),
+        Ok(Verdict::Fails) => text(to, b"fails"),
+        Err(refusal) => counts(to, b"refused ", refusal.number, refusal.place),
     }
 }
 
@@ -44,7 +44,7 @@ pub fn bytes(to: &mut impl Write, bytes: &[u8]) -> io::Result<()> {
 pub fn checksum(to: &mut impl Write, bytes: &[u8]) -> io::Result<()> {
     let mut sum = 0u64;
     for byte in bytes {
-        sum = (sum % 1000003 * 257 + wide(*byte)) % 1000003;
+        sum = (sum % 1000003 * 257 + u64::from(*byte)) % 1000003;
     }
     write!(to, "{sum}\n")
 }

@@ -1,10 +1,11 @@
 -- The states where a name of a big operator begins: with its set, or with its bounds.
-use Rattle.std.specs.Prelude.{ℕ, zero, suc, ◌+◌, ◌-◌, ◌≤◌, ◌<◌, ◌^◌, List, [], ◌∷◌, Bool, true, false, ◌&&◌, ◌||◌, ◌≡◌, eqb, drop}
+use Rattle.std.specs.Prelude.{ℕ, zero, suc, ◌+◌, ◌-◌, ◌≤◌, ◌<◌, ◌^◌, List, [], ◌∷◌, Bool, true, false, ◌&&◌, ◌||◌, ◌≡◌, eqb, drop, Ok, Err}
 use Rattle.std.proofs.Common.{arith, sym, ◌∙◌, subst}
 use Rattle.std.proofs.lemmas.Bool.{false≢true}
 use Rattle.std.proofs.Math.Path.{refl, ap}
 use Rattle.std.proofs.Math.Dec.{lit<}
 use borrow.Author.Tests.{eqb-true, eqb-false, eq-eqb, ne_eqb}
+use Rattle.node.specs.Returned.{refusal}
 use Rattle.node.specs.Result.{Done, ◌>>=◌}
 use Rattle.node.proofs.ResultLaws.{bind_at}
 use Rattle.words.specs.WordLaws.{length-put}
@@ -16,7 +17,7 @@ use Rattle.language.proofs.Laws.Basics.Tests.{pick, leave, and_left, and_right}
 use Rattle.language.specs.Limits.{work_bytes}
 use Rattle.lexer.specs.Numbers.{fixed, class_number as tokenNumber}
 use Rattle.entries.specs.declared.Cursor.{Cursor}
-use Rattle.entries.specs.declared.Parse.TheVariants.{Parsed, Refused as NotParsed}
+use Rattle.entries.specs.Parse.{Parse}
 use Rattle.entries.specs.Cursors.{Fits, Ready, number_at, next_of, refused_at, expected}
 use Rattle.entries.specs.CursorLaws.{ready-number, ready-next, before-end, drop-next}
 use Rattle.entries.specs.TokenReads.{next-class, next-named}
@@ -162,17 +163,17 @@ module _ {ts : Tokens} {s : Cursor} {x : Read Expr} {w : List ℕ} {m : Machine}
         }
 
 -- what was expected stands there, or not
-pub expected-parsed : (w : List ℕ) (c d : Cursor) (k : ℕ) → expected w c k ≡ Parsed d → (number_at w c ≡ k) × (d ≡ next_of c)
+pub expected-parsed : (w : List ℕ) (c d : Cursor) (k : ℕ) → expected w c k ≡ Ok d → (number_at w c ≡ k) × (d ≡ next_of c)
 expected-parsed w c d k e = go (eqb (number_at w c) k) refl e
   where
-    go : (b : Bool) → eqb (number_at w c) k ≡ b → elim b [ true ↦ Parsed (next_of c) | false ↦ refused_at w c ] ≡ Parsed d → (number_at w c ≡ k) × (d ≡ next_of c)
+    go : (b : Bool) → eqb (number_at w c) k ≡ b → ◌≡◌ {A = Parse} (elim b [ true ↦ Ok (next_of c) | false ↦ refused_at w c ]) (Ok d) → (number_at w c ≡ k) × (d ≡ next_of c)
     go true z f = let same : next_of c ≡ d = cc in (eqb-true (number_at w c) k z, sym same)
     go false z f = let n : ◌≡◌ {A = ℕ} 0 1 = cc in absurd (omega arith)
 
-pub expected-refused : (w : List ℕ) (c : Cursor) (k n p : ℕ) → expected w c k ≡ NotParsed n p → (number_at w c ≡ k → ⊥) × (NotParsed n p ≡ refused_at w c)
+pub expected-refused : (w : List ℕ) (c : Cursor) (k n p : ℕ) → expected w c k ≡ Err (refusal n p) → (number_at w c ≡ k → ⊥) × (◌≡◌ {A = Parse} (Err (refusal n p)) (refused_at w c))
 expected-refused w c k n p e = go (eqb (number_at w c) k) refl e
   where
-    go : (b : Bool) → eqb (number_at w c) k ≡ b → elim b [ true ↦ Parsed (next_of c) | false ↦ refused_at w c ] ≡ NotParsed n p → (number_at w c ≡ k → ⊥) × (NotParsed n p ≡ refused_at w c)
+    go : (b : Bool) → eqb (number_at w c) k ≡ b → ◌≡◌ {A = Parse} (elim b [ true ↦ Ok (next_of c) | false ↦ refused_at w c ]) (Err (refusal n p)) → (number_at w c ≡ k → ⊥) × (◌≡◌ {A = Parse} (Err (refusal n p)) (refused_at w c))
     go true z f = let o : ◌≡◌ {A = ℕ} 0 1 = cc in absurd (omega arith)
     go false z f = (eqb-false (number_at w c) k z, sym f)
 

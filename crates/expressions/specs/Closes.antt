@@ -1,10 +1,11 @@
 -- The trees of frames that need a sign behind them, one law for each class; the refusal where the sign is another one.
-use Rattle.std.specs.Prelude.{ℕ, suc, ◌+◌, ◌<◌, List, true, ◌≡◌, refl, drop}
+use Rattle.std.specs.Prelude.{ℕ, suc, ◌+◌, ◌<◌, List, true, ◌≡◌, refl, drop, Err}
 use Prim.Native.String.{String}
 use Rattle.std.proofs.Common.{arith, append_assoc, sym, ◌∙◌, subst, lit<}
 use Rattle.std.proofs.Math.Option.{some}
 use Rattle.std.proofs.Math.Path.{ap}
 use borrow.Author.Tests.{eq-eqb, ne_eqb}
+use Rattle.node.specs.Returned.{refusal}
 use Rattle.node.specs.Result.{Done, ◌>>=◌}
 use Rattle.node.proofs.ResultLaws.{bind_at}
 use Rattle.language.specs.Bytes.{ascii, is_one_of}
@@ -16,7 +17,6 @@ use Rattle.lexer.specs.Numbers.{spellings, fixed}
 use Rattle.entries.specs.Kinds as Kind
 use Rattle.entries.specs.Flat.{under, flat}
 use Rattle.entries.specs.declared.Cursor.{Cursor}
-use Rattle.entries.specs.declared.Parse.TheVariants.{Refused as NotParsed}
 use Rattle.entries.specs.Cursors.{Ready, number_at, next_of, refused_at}
 use Rattle.entries.specs.CursorLaws.{ready-place, drop-next}
 use Rattle.entries.specs.TokenReads.{next_number_lem}
@@ -56,7 +56,7 @@ refused-here {ts} {s} {x} {w} Gs c ready same =
     record {
       kept = kept_same w s.out;
       after =
-          subst (λ y. Outcome ts w s flat y (refused_at w c)) (sym (same ∙ plug-refused Gs 4 (front (drop c.at ts)).at)) (ap (NotParsed 4) (ready-place ready));
+          subst (λ y. Outcome ts w s flat y (refused_at w c)) (sym (same ∙ plug-refused Gs 4 (front (drop c.at ts)).at)) (ap (λ (p : ℕ). Err (refusal 4 p)) (ready-place ready));
     }
 
 module _ {ts : Tokens} {s : Cursor} {x : Read Expr} {w : List ℕ} {m : Machine} (h : Complete ts s x w m) (deep : 0 < m.depth) where

@@ -1,5 +1,5 @@
 -- A complete expression and the last frame: its class, and the state in which its tree is complete in turn.
-use Rattle.std.specs.Prelude.{ℕ, suc, ◌+◌, ◌-◌, ◌≤◌, ◌<◌, ◌^◌, Bool, true, false, ◌&&◌, ◌≡◌, refl, eqb, leb, ltb, length}
+use Rattle.std.specs.Prelude.{ℕ, suc, ◌+◌, ◌-◌, ◌≤◌, ◌<◌, ◌^◌, Bool, true, false, ◌&&◌, ◌≡◌, refl, eqb, leb, ltb, length, Ok}
 use Rattle.std.proofs.Common.{arith, ◌∙◌, length-append, eqb-true, leb-true, ltb-true}
 use mathlib.Core.List.{List, [], ◌∷◌, ◌++◌, append_assoc}
 use Rattle.std.proofs.Math.Option.{Option, some}
@@ -16,7 +16,6 @@ use Rattle.entries.specs.Kinds as Kind
 use Rattle.entries.specs.Flat.{Entry, under, flat}
 use Rattle.entries.specs.Stored.{first_entry, entry_word, put_entry, Keeps}
 use Rattle.entries.specs.declared.Cursor.{Cursor}
-use Rattle.entries.specs.declared.Parse.TheVariants.{Parsed}
 use Rattle.entries.specs.Cursors.{Fits, number_at, emitted_of}
 use Rattle.entries.specs.CursorLaws.{before-end}
 use Rattle.entries.specs.Reads.{Outcome}
@@ -112,17 +111,17 @@ top-class w ts depth n F slots h = go (eqb n (class_number Upper)) (eqb n (class
 
 module _ {ts : Tokens} {s : Cursor} {x : Read Expr} {w : List ℕ} {m : Machine} (h : Complete ts s x w m) where
   -- no frame is left
-  pub turn_done : m.depth ≡ 0 → Turned ts s x w w m (Ended (Parsed m.c))
+  pub turn_done : m.depth ≡ 0 → Turned ts s x w w m (Ended (Ok m.c))
   unfolding plug
   turn_done e = go h.frames h.stacked h.same
     where
       go : (Fs : List Frame) → Stacked ts s w m.c m.depth (slots_of Fs) (base Fs ++ flat h.tree) (credits Fs) → x ≡ plug Fs (Done (h.tree, drop m.c.at ts))
-          → Turned ts s x w w m (Ended (Parsed m.c))
+          → Turned ts s x w w m (Ended (Ok m.c))
       go [] st same =
           record {
             kept = kept_same w s.out;
             after =
-                subst (λ y. Outcome ts w s flat y (Parsed m.c)) (sym same)
+                subst (λ y. Outcome ts w s flat y (Ok m.c)) (sym same)
                 (record {
                   cursor = m.c;
                   parsed = refl;

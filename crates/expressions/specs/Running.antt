@@ -6,7 +6,7 @@ use Rattle.language.specs.Grammar.{Tokens}
 use Rattle.language.specs.Sections.{expression}
 use Rattle.entries.specs.Flat.{flat}
 use Rattle.entries.specs.declared.Cursor.{Cursor}
-use Rattle.entries.specs.declared.Parse.{Parse}
+use Rattle.entries.specs.Parse.{Parse}
 use Rattle.entries.specs.Cursors.{Ready, Readied}
 use Rattle.entries.specs.Reads.{Kept, Reads}
 use Rattle.entries.specs.ReadsLaws.{kept_same, kept_then}

@@ -1,7 +1,7 @@
 -- The last trees of the entries: where they begin, and that there are so many.
 use Rattle.std.specs.Prelude.{ℕ, zero, suc, ◌+◌, ◌-◌, List, [], ◌∷◌, ◌++◌, ◌≡◌, refl, length}
 use Rattle.std.proofs.Common.{append_assoc, append-nil, sym, ap, ◌∙◌, subst}
-use Rattle.language.specs.Grammar.{Tokens, front}
+use Rattle.language.specs.Grammar.{Tokens}
 use Rattle.language.proofs.Laws.Basics.Lists.{All as Every}
 use Rattle.entries.specs.Flat.{Entry}
 use Rattle.entries.specs.Stored.{EntriesFrom}

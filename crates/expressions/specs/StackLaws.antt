@@ -1,7 +1,7 @@
 -- One step of the stack each: past a token, a slot pushed, a slot popped, an entry written. No grammar shows.
 use Rattle.std.specs.Prelude.{ℕ, zero, suc, ◌+◌, ◌-◌, ◌≤◌, ◌<◌, ◌^◌, List, [], ◌∷◌, ◌++◌, ◌≡◌, length}
 use Rattle.std.proofs.Common.{arith, sym, ap, ◌∙◌, subst, length-append}
-use Rattle.std.proofs.Math.Option.{Option, some}
+use Rattle.std.proofs.Math.Option.{Option}
 use Rattle.node.specs.BitFields.{above, below}
 use Rattle.node.proofs.FieldLaws.{above_join, below-join}
 use Rattle.words.specs.Words.{word_at, put_word}

@@ -1,7 +1,8 @@
 -- From one state to the next: a refusal; a frame pushed where an operand begins; an operand that is complete. Each asks for an equation of the readers.
-use Rattle.std.specs.Prelude.{ℕ, suc, ◌+◌, ◌-◌, ◌≤◌, ◌<◌, ◌^◌, List, [], ◌∷◌, ◌++◌, Bool, false, ◌≡◌, refl, drop}
+use Rattle.std.specs.Prelude.{ℕ, suc, ◌+◌, ◌-◌, ◌≤◌, ◌<◌, ◌^◌, List, [], ◌∷◌, ◌++◌, Bool, false, ◌≡◌, refl, drop, Err}
 use Rattle.std.proofs.Common.{zero-add, arith, append_assoc, sym, ap, ◌∙◌, subst}
 use Rattle.std.proofs.Math.Option.{some}
+use Rattle.node.specs.Returned.{refusal}
 use Rattle.node.specs.Result.{Refused, ◌>>=◌}
 use Rattle.language.specs.Tokens.{Token}
 use Rattle.language.specs.Tree.{Expr, Empty}
@@ -12,7 +13,6 @@ use Rattle.entries.specs.Kinds as Kind
 use Rattle.entries.specs.Flat.{leaf, flat}
 use Rattle.entries.specs.Stored.{first_entry, entry_word, put_entry, Keeps}
 use Rattle.entries.specs.declared.Cursor.{Cursor}
-use Rattle.entries.specs.declared.Parse.TheVariants.{Refused as NotParsed}
 use Rattle.entries.specs.Cursors.{Fits, Ready, refused_at, emitted_of}
 use Rattle.entries.specs.CursorLaws.{ready-place}
 use Rattle.entries.specs.Reads.{Kept, Outcome}
@@ -78,7 +78,7 @@ module _ {complete : Bool} {ts : Tokens} {s : Cursor} {x : Read Expr} {w : List 
         kept = kept_same w s.out;
         after =
             subst (λ y. Outcome ts w s flat y (refused_at w d)) (sym (h.same ∙ ap (plug h.frames) e ∙ plug-refused h.frames 4 (front (drop d.at ts)).at))
-            (ap (NotParsed 4) (ready-place ready));
+            (ap (λ (p : ℕ). Err (refusal 4 p)) (ready-place ready));
       }
 
   pub refuses : current complete m.level h.tree (drop m.c.at ts) ≡ stop (drop m.c.at ts) → Turned ts s x w w m (Ended (refused_at w m.c))

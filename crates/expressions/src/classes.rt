@@ -2,6 +2,7 @@
 ghost use Rattle.std.specs.Prelude.{◌≡◌};
 ghost use Rattle.expressions.specs.Classes.{class_numbers};
 
+// Numbers and no enum: a frame's word in the work buffer holds them.
 pub const RIGHT: u32 = 1;
 
 pub const SOLE: u32 = 2;

@@ -10,7 +10,6 @@ use crate::names::names;
 use crate::roles::operand;
 use crate::sets::{all, further, set};
 use crate::stack::{Machine, Turn};
-use entries::Parse;
 use entries::fields::TOKENS;
 use operators::fields::LEVELS;
 use operators::infixes;
@@ -23,7 +22,7 @@ fn pop(m: Machine, work: &mut [u8]) -> Turn
 {
     if m.depth == 0 {
         let c = m.c;
-        return Turn::Ended(Parse::Parsed(c));
+        return Turn::Ended(Ok(c));
     }
     let class = m.top(work) / TOKENS / LEVELS;
     if class < classes::ROUND {

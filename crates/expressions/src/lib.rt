@@ -31,6 +31,7 @@ pub fn expression(c: Cursor, work: &mut [u8]) -> Parse
         level: LOOSEST,
         complete: false,
     };
+    // A step of the stack at a time: no index counts.
     loop {
         let t = advance(m, work);
         match t {

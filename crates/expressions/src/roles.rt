@@ -9,7 +9,7 @@ ghost use Rattle.expressions.specs.Binders.{among_at, member_at, Naming, Names};
 use crate::classes;
 use crate::stack::{BOUNDS, LOOSEST, Machine, Turn};
 use crate::start::atom;
-use entries::{Cursor, Parse};
+use entries::Cursor;
 use lexer::numbers;
 use operators::fields::LEVELS;
 use operators::prefixes;
@@ -59,7 +59,7 @@ fn fold(m: Machine, work: &mut [u8]) -> Turn
     let c = m.c;
     let at = c.at;
     let r = c.next().expect(work, numbers::OPEN_BRACKET);
-    let Parse::Parsed(d) = r else {
+    let Ok(d) = r else {
         return Turn::Ended(r);
     };
     Turn::Next(binder(m, work, d, at))

@@ -1,8 +1,9 @@
 -- A further element of a big operator's set, and the end, where none is left. For numbers, sets and formulas.
-use Rattle.std.specs.Prelude.{ℕ, suc, ◌+◌, ◌-◌, ◌≤◌, ◌<◌, ◌^◌, List, [], ◌++◌, ◌≡◌, refl, length, get_or, set, drop}
+use Rattle.std.specs.Prelude.{ℕ, suc, ◌+◌, ◌-◌, ◌≤◌, ◌<◌, ◌^◌, List, [], ◌++◌, ◌≡◌, refl, length, get_or, set, drop, Ok}
 use Rattle.std.proofs.Common.{sym, ap, ◌∙◌, subst, arith}
 use Rattle.node.specs.Limits.{max_nodes}
 use Rattle.node.specs.Result.{Result, Done, ◌>>=◌}
+use Rattle.machine.specs.declared.Move.TheVariants.{Next}
 use Rattle.language.specs.Tokens.{Token}
 use Rattle.language.specs.Tree.{Expr}
 use Rattle.language.specs.Values.{Value}
@@ -25,7 +26,6 @@ use Rattle.machine.specs.States.{mode_of, Standing, written, Turned, TopOf}
 use Rattle.machine.specs.TakeLaws.{words, entry_word_lem, at-word, count_word, room-under, renewed, pops}
 use Rattle.machine.specs.declared.Words.{Words}
 use Rattle.machine.specs.declared.Machine.{Machine}
-use Rattle.machine.specs.declared.Move.TheVariants.{Next}
 use Rattle.fold_steps.specs.TurningLaws.{turns_to}
 use Rattle.fold_steps.specs.ElementLaws.{Split}
 use Rattle.fold_steps.specs.Turning.{words_at, next_at, Continuing, unbound, turned}
@@ -114,7 +114,7 @@ module _ {s : Source} {R : Realm s} {mem out : List ℕ} {m : Machine} {x : Resu
     pub same : apply F h.came ≡ (works a (at c i (get_or mem₀ (words h).at 0)) e >>= apply G)
 
   pub continues : {G : Frame} {new value other : ℕ} {fold' : List ℕ} {forms' : List Laying} {a : Aim} {c : Context} {i : Token} {e : Expr} {mem₀ mem' out' : List ℕ} {top nodes : ℕ} {n : Machine}
-      → Continues G new value other fold' forms' a c i e mem₀ mem' out' top nodes n → Turned R mem mem' out out' m x o (Next n)
+      → Continues G new value other fold' forms' a c i e mem₀ mem' out' top nodes n → Turned R mem mem' out out' m x o (Ok (Next n))
   continues {G} {new} {value} {other} {fold'} {forms'} {a} {c} {i} {e} {mem₀} {mem'} {out'} {top} {nodes} {n} b =
       let p = b.some in
       let kept = b.words-kept ∙ h.at.words in
@@ -127,7 +127,7 @@ module _ {s : Source} {R : Realm s} {mem out : List ℕ} {m : Machine} {x : Resu
       let v = get_or mem₀ (words h).at 0 in
       let td = turning-depth in
       let sz : (words h).count ≡ suc (length p.rest) = turning-count ∙ ap length p.same in
-      subst (λ (y : Machine). Turned R mem mem' out out' m x o (Next y)) (sym (b.next ∙ ap (λ (j : ℕ). turned m (mode_of a) (j - 1) (m.depth - 1) top nodes) e1))
+      subst (λ (y : Machine). Turned R mem mem' out out' m x o (Ok (Next y))) (sym (b.next ∙ ap (λ (j : ℕ). turned m (mode_of a) (j - 1) (m.depth - 1) top nodes) e1))
       (turns_to h {G = G} {rest = p.rest} {fold = fold'} {forms = forms'} {new = next_at (words h) new value other} {a = a} {c = c} {i = i} {e = e} {v = v} {mem₀ = mem₀} {out' = out'} (record {
         outside = ap (λ (y : Holding). y.inside) f;
         is-turning = b.is-turning;
@@ -171,7 +171,7 @@ module _ {s : Source} {R : Realm s} {mem out : List ℕ} {m : Machine} {x : Resu
     pub noted : Noted R o.regions o.index mem'
     pub lasting : Lasting R.W mem' out m.nodes
 
-  pub ends : {v : Value} {mode value from base : ℕ} {mem' : List ℕ} → Ends v mode value from base mem' → Turned R mem mem' out out m x o (Next (unbound m mode value from base))
+  pub ends : {v : Value} {mode value from base : ℕ} {mem' : List ℕ} → Ends v mode value from base mem' → Turned R mem mem' out out m x o (Ok (Next (unbound m mode value from base)))
   ends {v} b =
       let td = turning-depth h f in
       pops h {v = Worth v} (record {

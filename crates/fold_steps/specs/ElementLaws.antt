@@ -1,7 +1,8 @@
 -- The elements of a big operator's set: the first one and the others; the operand is worked out at the first. For numbers, sets and formulas.
-use Rattle.std.specs.Prelude.{ℕ, suc, ◌+◌, ◌-◌, ◌≤◌, ◌<◌, ◌^◌, false, List, [], ◌∷◌, ◌≡◌, refl, length, get_or}
+use Rattle.std.specs.Prelude.{ℕ, suc, ◌+◌, ◌-◌, ◌≤◌, ◌<◌, ◌^◌, false, List, [], ◌∷◌, ◌≡◌, refl, length, get_or, Ok}
 use Rattle.std.proofs.Common.{sym, ap, ◌∙◌, subst, arith}
 use Rattle.node.specs.Result.{Result, ◌>>=◌}
+use Rattle.machine.specs.declared.Move.TheVariants.{Next}
 use Rattle.language.specs.Limits.{max_elements, max_number}
 use Rattle.language.specs.Tokens.{Token}
 use Rattle.language.specs.Tree.{Expr}
@@ -25,7 +26,6 @@ use Rattle.machine.specs.ComeLaws.{IsSet}
 use Rattle.machine.specs.TakeLaws.{words, entry_word_lem, room-under, renewed}
 use Rattle.machine.specs.FlatLaws.{flat-top, flat-depth, flat-laid}
 use Rattle.machine.specs.declared.Machine.{Machine}
-use Rattle.machine.specs.declared.Move.TheVariants.{Next}
 use Rattle.fold_steps.specs.TurningLaws.{turns_to}
 use Rattle.fold_steps.specs.Turning.{begun_at, begun, Beginning, Turns}
 
@@ -90,7 +90,7 @@ module _ {s : Source} {R : Realm s} {mem out : List ℕ} {m : Machine} {x : Resu
       pub kept : Kept G (works a (at c i (get_or mem m.from 0)) e)
       pub same : apply F h.came ≡ (works a (at c i (get_or mem m.from 0)) e >>= apply G)
 
-    pub begins : {G : Frame} {new : ℕ} {a : Aim} {c : Context} {i : Token} {e : Expr} {mem' : List ℕ} {n : Machine} → Begins G new a c i e mem' n → Turned R mem mem' out out m x o (Next n)
+    pub begins : {G : Frame} {new : ℕ} {a : Aim} {c : Context} {i : Token} {e : Expr} {mem' : List ℕ} {n : Machine} → Begins G new a c i e mem' n → Turned R mem mem' out out m x o (Ok (Next n))
     begins {G} {new} {a} {c} {i} {e} {mem'} {n} b =
         let t : Turns mem mem' m (begun_at m (words h).entry new) m.depth (get_or mem m.from 0) (mode_of a) (above m) n
         = subst (λ (j : ℕ). Turns mem mem' m (begun_at m j new) m.depth (get_or mem m.from 0) (mode_of a) (above m) n) (entry_word_lem h) b.turns in
@@ -101,7 +101,7 @@ module _ {s : Source} {R : Realm s} {mem out : List ℕ} {m : Machine} {x : Resu
         let eg = h.at.enough in
         let af = above_from m in
         let am = above_most m in
-        subst (λ (y : Machine). Turned R mem mem' out out m x o (Next y)) (sym t.next)
+        subst (λ (y : Machine). Turned R mem mem' out out m x o (Ok (Next y))) (sym t.next)
         (turns_to h {G = G} {rest = p.rest} {fold = []} {forms = []} {new = begun_at m (words h).entry new} {a = a} {c = c} {i = i} {e = e} {mem₀ = mem} {out' = out} (record {
           outside = ap (λ (y : Holding). y.inside) f;
           is-turning = b.is-turning;

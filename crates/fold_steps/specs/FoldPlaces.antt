@@ -1,7 +1,6 @@
 -- Where a folded set stands: a kept one, or behind the elements that are left; and where it goes next.
 use Rattle.std.specs.Prelude.{ℕ, ◌+◌, ◌≤◌, ◌<◌, ◌^◌, List, ◌≡◌, length, get_or}
 use Rattle.std.proofs.Common.{◌∙◌, arith, get_or-drop}
-use Rattle.language.specs.Expansion.{at}
 use Rattle.memory_sets.specs.Places.{Copied}
 use Rattle.machine.specs.Fields.{base_field, at_field, count_field}
 use Rattle.machine.specs.Memory.{first_kept, set_words, Lies, nowhere, kept_set, value as placed, Sits, in_kept, on_top}

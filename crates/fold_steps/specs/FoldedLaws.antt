@@ -1,12 +1,14 @@
 -- A set is folded: the answer where no element is left, else the operand is worked out at the next one while the frame holds the set.
-use Rattle.std.specs.Prelude.{ℕ, suc, ◌+◌, ◌-◌, ◌*◌, ◌≤◌, ◌<◌, ◌^◌, List, [], ◌≡◌, refl, length, get_or, drop}
+use Rattle.std.specs.Prelude.{ℕ, suc, ◌+◌, ◌-◌, ◌*◌, ◌≤◌, ◌<◌, ◌^◌, List, [], ◌≡◌, refl, length, get_or, drop, Ok}
 use Rattle.std.proofs.Common.{sym, ap, ◌∙◌, subst, arith}
 use Rattle.node.specs.Result.{Result}
+use Rattle.machine.specs.declared.Move.TheVariants.{Next}
+use Rattle.machine.specs.Stepped.{Stepped}
 use Rattle.language.specs.Tokens.{Token}
 use Rattle.language.specs.Operators.{Big}
 use Rattle.language.specs.Tree.{Expr}
 use Rattle.language.specs.Values.{Value, Set}
-use Rattle.language.specs.Expansion.{Context, at}
+use Rattle.language.specs.Expansion.{Context}
 use Rattle.operands.specs.Working.{Source}
 use Rattle.memory_sets.specs.Places.{Outside}
 use Rattle.memory_sets.specs.PlaceLaws.{outside-both, outside-within}
@@ -29,8 +31,6 @@ use Rattle.machine.specs.Stack.{EachOf, OfSets, HoldsRest}
 use Rattle.machine.specs.States.{mode_of, Turned, TopOf}
 use Rattle.machine.specs.TakeLaws.{words, room-under}
 use Rattle.machine.specs.declared.Machine.{Machine}
-use Rattle.machine.specs.declared.Move.{Move}
-use Rattle.machine.specs.declared.Move.TheVariants.{Next}
 use Rattle.fold_steps.specs.Turning.{Turns, words_at, next_at}
 use Rattle.fold_steps.specs.ElementLaws.{split, no_element}
 use Rattle.fold_steps.specs.ContinueLaws.{continues, ends, turning-depth, turning_held, turning_lies, turning-count, turning-laid}
@@ -205,7 +205,7 @@ module _ {s : Source} {R : Realm s} {mem out : List ℕ} {m : Machine} {x : Resu
       near : other ≤ (words h).base + set_words
 
     holds_on : {low other top : ℕ} {mem₂ mem' : List ℕ} {y : Machine} → Holding₂ low other top mem₂
-        → Turns mem₂ mem' m (next_at (words_at mem₂ m.frames) Phase.next_set n other) (m.depth - 1) (get_or mem₂ (get_or mem₂ (m.frames + at_field) 0) 0) (mode_of Evaluate) top y → Turned R mem mem' out out m x o (Next y)
+        → Turns mem₂ mem' m (next_at (words_at mem₂ m.frames) Phase.next_set n other) (m.depth - 1) (get_or mem₂ (get_or mem₂ (m.frames + at_field) 0) 0) (mode_of Evaluate) top y → Turned R mem mem' out out m x o (Ok (Next y))
     holds_on {low} {other} {top} {mem₂} {mem'} {y} g t =
         let k = keeps g.outside in
         let r = g.room in
@@ -247,7 +247,7 @@ module _ {s : Source} {R : Realm s} {mem out : List ℕ} {m : Machine} {x : Resu
           same = b.same ∙ ap (λ (u : List ℕ). onward_sets p op c i e u a) q.same ∙ fold_more p op c i e v q.rest a;
         })
 
-    pub folds_on : {mem' : List ℕ} (r : Move) → Onward mem₀ mem' m from n r → Turned R mem mem' out out m x o r
+    pub folds_on : {mem' : List ℕ} (r : Stepped) → Onward mem₀ mem' m from n r → Turned R mem mem' out out m x o r
     folds_on {mem'} r (kept_end z lo em er) =
         let none = no_element l (sym count₀ ∙ z) in
         let k = keeps outside₀ in
@@ -256,7 +256,7 @@ module _ {s : Source} {R : Realm s} {mem out : List ℕ} {m : Machine} {x : Resu
         let fr = k.free in
         let sz = b.size in
         let k1 = rk.1 in
-        subst (λ (u : List ℕ). Turned R mem u out out m x o r) (sym em) (subst (λ (u : Move). Turned R mem mem₀ out out m x o u) (sym er) (ends h f {v = Set a} (record {
+        subst (λ (u : List ℕ). Turned R mem u out out m x o r) (sym em) (subst (λ (u : Stepped). Turned R mem mem₀ out out m x o u) (sym er) (ends h f {v = Set a} (record {
           value-came = b.value-came;
           came-is = b.came-is;
           same = b.same ∙ ap (λ (u : List ℕ). onward_sets p op c i e u a) none ∙ fold_end p op c i e a;
@@ -275,7 +275,7 @@ module _ {s : Source} {R : Realm s} {mem out : List ℕ} {m : Machine} {x : Resu
         let rf = rests-fits in
         let sz = b.size in
         let k = keeps (outside-both outside₀ (outside-within (omega arith) (omega arith) g.kept)) in
-        subst (λ (u : Move). Turned R mem mem' out out m x o u) (sym er) (ends h f {v = Set a} (record {
+        subst (λ (u : Stepped). Turned R mem mem' out out m x o u) (sym er) (ends h f {v = Set a} (record {
           value-came = b.value-came;
           came-is = b.came-is;
           same = b.same ∙ ap (λ (u : List ℕ). onward_sets p op c i e u a) none ∙ fold_end p op c i e a;
@@ -294,7 +294,7 @@ module _ {s : Source} {R : Realm s} {mem out : List ℕ} {m : Machine} {x : Resu
         let sz = b.size in
         let ro = behind z g in
         let r3 = ro.below_top in
-        subst (λ (u : Move). Turned R mem mem' out out m x o u) (sym er) (holds_on {low = low} {other = from} {top = low} {mem₂ = mem₀} (record {
+        subst (λ (u : Stepped). Turned R mem mem' out out m x o u) (sym er) (holds_on {low = low} {other = from} {top = low} {mem₂ = mem₀} (record {
           outside = outside₀;
           some = omega arith;
           room = ro;
@@ -317,7 +317,7 @@ module _ {s : Source} {R : Realm s} {mem out : List ℕ} {m : Machine} {x : Resu
         let r1 = ro.above-base in
         let r3 = ro.below_top in
         let r4 = ro.near b.rest.near in
-        subst (λ (u : Move). Turned R mem mem' out out m x o u) (sym er) (holds_on {low = low} {other = low} {top = low + n} {mem₂ = mem₁} (record {
+        subst (λ (u : Stepped). Turned R mem mem' out out m x o u) (sym er) (holds_on {low = low} {other = low} {top = low + n} {mem₂ = mem₁} (record {
           outside = outside-both outside₀ (outside-within r1 (omega arith) q.kept);
           some = omega arith;
           room = ro;

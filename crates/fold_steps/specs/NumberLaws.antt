@@ -1,8 +1,10 @@
 -- A big operator of numbers: what its operands have come to is folded to the left.
-use Rattle.std.specs.Prelude.{ℕ, suc, ◌+◌, ◌≤◌, ◌<◌, ◌^◌, List, [], ◌∷◌, ◌≡◌, refl, length, get_or}
+use Rattle.std.specs.Prelude.{ℕ, suc, ◌+◌, ◌≤◌, ◌<◌, ◌^◌, List, [], ◌∷◌, ◌≡◌, refl, length, get_or, Ok, Err}
 use Rattle.std.proofs.Common.{sym, ap, ap₂, ◌∙◌, subst, arith}
 use Rattle.node.specs.Result.{Result, ◌>>=◌}
 use Rattle.node.proofs.ResultLaws.{bind_again, bind_at, bind_same, bind_refused}
+use Rattle.node.specs.Returned.{Returned, refusal}
+use Rattle.machine.specs.Stepped.{Stepped}
 use Rattle.language.specs.Limits.{max_number}
 use Rattle.language.specs.Tokens.{Token}
 use Rattle.language.specs.Operators.{Arithmetic, Big, BigSum, BigProduct, BigCap, BigCup, BigAnd, BigOr}
@@ -13,7 +15,6 @@ use Rattle.language.proofs.Laws.Basics.Results.{value_of}
 use Rattle.language.proofs.Laws.Values.ValueLaws.{calculate_sane}
 use Rattle.sets.specs.Answers.{says}
 use Rattle.sets.specs.Operators.{arithmetic}
-use Rattle.sets.specs.declared.Worked.{Worked}
 use Rattle.operators.specs.Codes.{big_code}
 use Rattle.operators.specs.Tables.{prefix_code_at}
 use Rattle.operands.specs.Entries.{place_at, number_at as tokenNumber}
@@ -37,8 +38,6 @@ use Rattle.machine.specs.FrameViews.{by_phase}
 use Rattle.machine.specs.TakeLaws.{words, entry_word_lem, base_word, count_word, value-word, refuses, top-phase, top_as}
 use Rattle.machine.specs.BindLaws.{take-number}
 use Rattle.machine.specs.declared.Machine.{Machine}
-use Rattle.machine.specs.declared.Move.{Move}
-use Rattle.machine.specs.declared.Move.TheVariants.{Refused as Refuses}
 use Rattle.machine.specs.Entering.{Waiting}
 use Rattle.fold_steps.specs.ElementLaws.{split, no_element}
 use Rattle.fold_steps.specs.ContinueLaws.{continuing, continues, ends, turning-depth, turning_held, turning_lies, turning-count, turning-laid}
@@ -85,10 +84,10 @@ module _ {s : Source} {R : Realm s} {mem out : List ℕ} {m : Machine} {x : Resu
     pub numbers : OfNumbers op
     pub fewer : (count : ℕ) → turns Phase.next_number count < turns phase (suc count)
 
-  pub folds_on : {p : ℕ} {op : Big} {c : Context} {i : Token} {e : Expr} {n : ℕ} → Folding p op c i e n → {mem' : List ℕ} (r : Move) → Onward mem mem' m n r → Turned R mem mem' out out m x o r
+  pub folds_on : {p : ℕ} {op : Big} {c : Context} {i : Token} {e : Expr} {n : ℕ} → Folding p op c i e n → {mem' : List ℕ} (r : Stepped) → Onward mem mem' m n r → Turned R mem mem' out out m x o r
   folds_on {p} {op} {c} {i} {e} {n} b {mem'} r (ended z em er) =
       let none = no_element l (sym (turning-count h f) ∙ sym (count_word h) ∙ z) in
-      subst (λ (y : List ℕ). Turned R mem y out out m x o r) (sym em) (subst (λ (y : Move). Turned R mem mem out out m x o y) (sym er) (ends h f {v = Number n} (record {
+      subst (λ (y : List ℕ). Turned R mem y out out m x o r) (sym em) (subst (λ (y : Stepped). Turned R mem mem out out m x o y) (sym er) (ends h f {v = Number n} (record {
         value-came = Number m.value;
         came-is = b.came.same;
         same = b.same ∙ ap (λ (y : List ℕ). onward_numbers p op c i e y n) none ∙ fold_end p op c i e n;
@@ -104,7 +103,7 @@ module _ {s : Source} {R : Realm s} {mem out : List ℕ} {m : Machine} {x : Resu
       let cw = count_word h in
       let q = split mem (words h).at l (turning_held h f) b.fine (omega arith) in
       let v = get_or mem (words h).at 0 in
-      subst (λ (y : Move). Turned R mem mem' out out m x o y) (sym er)
+      subst (λ (y : Stepped). Turned R mem mem' out out m x o y) (sym er)
       (continues h f {G = NextNumber p op c i e n q.rest} {new = Phase.next_number} {value = n} {other = 0} {fold' = []} {forms' = []} {a = Evaluate} {c = c} {i = i} {e = e} {mem₀ = mem} {out' = out} (record {
         words-kept = refl;
         agree = agree_same;
@@ -174,7 +173,7 @@ module _ {s : Source} {mem : List ℕ} {m : Machine} (w : Waiting mem m Phase.fi
   pub first-foldable : Topped s mem m → Foldable mem m
   first-foldable t = let y = at_first t.top w in foldable y.top {phase = Phase.first_number} {l = y.rest} refl t.lent.small
 
-  pub first-steps : m.mode ≡ is_number → {mem' : List ℕ} (r : Move) → Onward mem mem' m m.value r → Takes s mem mem' m r
+  pub first-steps : m.mode ≡ is_number → {mem' : List ℕ} (r : Stepped) → Onward mem mem' m m.value r → Takes s mem mem' m r
   first-steps e r g = record {
     turns = λ R x o out t.
         let y = at_first t w in
@@ -194,7 +193,7 @@ module _ {s : Source} {mem : List ℕ} {m : Machine} (w : Waiting mem m Phase.fi
   }
 
 -- the frame's words as the code reads them, and what it makes of them
-pub record Adds (s : Source) (mem : List ℕ) (m : Machine) (k i p a : ℕ) (r : Worked) : Type 0 where
+pub record Adds (s : Source) (mem : List ℕ) (m : Machine) (k i p a : ℕ) (r : Returned ℕ) : Type 0 where
   pub entry : k ≡ get_or mem (m.frames + entry_field) 0
   pub operator : i ≡ prefix_code_at (tokenNumber s.work k)
   pub place : p ≡ place_at s.work k
@@ -202,7 +201,7 @@ pub record Adds (s : Source) (mem : List ℕ) (m : Machine) (k i p a : ℕ) (r :
   pub answer : says r ≡ calculate p (arithmetic i) a m.value
 
 -- the code's number is the definition's
-record Added {s : Source} {R : Realm s} {mem out : List ℕ} {m : Machine} {x : Result Came} {o : Began} (y : AtNext R mem out m x o) (r : Worked) : Type 0 where
+record Added {s : Source} {R : Realm s} {mem out : List ℕ} {m : Machine} {x : Result Came} {o : Began} (y : AtNext R mem out m x o) (r : Returned ℕ) : Type 0 where
   came : IsNumber m y.top.came
   says_is : says r ≡ calculate y.place (numeric y.op) y.sum m.value
   same : apply (NextNumber y.place y.op y.context y.name y.operand y.sum y.rest) y.top.came
@@ -214,7 +213,7 @@ module _ {s : Source} {mem : List ℕ} {m : Machine} (w : Waiting mem m Phase.ne
   next-foldable t = let y = at_next t.top w in foldable y.top {phase = Phase.next_number} {l = y.rest} refl t.lent.small
 
   module _ (e : m.mode ≡ is_number) {k i p a : ℕ} where
-    added : {R : Realm s} {out : List ℕ} {x : Result Came} {o : Began} (y : AtNext R mem out m x o) (r : Worked) → Adds s mem m k i p a r → Added y r
+    added : {R : Realm s} {out : List ℕ} {x : Result Came} {o : Began} (y : AtNext R mem out m x o) (r : Returned ℕ) → Adds s mem m k i p a r → Added y r
     added {R} {o = o} y r q =
         let h = y.top in
         let n = came-number R o mem m h.came h.come e in
@@ -234,20 +233,20 @@ module _ {s : Source} {mem : List ℕ} {m : Machine} (w : Waiting mem m Phase.ne
               ∙ ap (λ (u : Result ℕ). u >>= onto) (sym z);
         }
 
-    pub next-refuses : {number place : ℕ} → Adds s mem m k i p a (Worked.Refused number place) → Takes s mem mem m (Refuses number place)
+    pub next-refuses : {number place : ℕ} → Adds s mem m k i p a (Err (refusal number place)) → Takes s mem mem m (Err (refusal number place))
     next-refuses {number} {place} q = record {
       turns = λ R x o out t.
           let y = at_next t w in
-          let z = added y (Worked.Refused number place) q in
-          refuses y.top (z.same ∙ bind_refused (says (Worked.Refused number place)) number place (onward_numbers y.place y.op y.context y.name y.operand y.rest) refl);
+          let z = added y (Err (refusal number place)) q in
+          refuses y.top (z.same ∙ bind_refused (says (Err (refusal number place))) number place (onward_numbers y.place y.op y.context y.name y.operand y.rest) refl);
     }
 
-    pub next-steps : {n : ℕ} → Adds s mem m k i p a (Worked.Value n) → {mem' : List ℕ} (r : Move) → Onward mem mem' m n r → Takes s mem mem' m r
+    pub next-steps : {n : ℕ} → Adds s mem m k i p a (Ok n) → {mem' : List ℕ} (r : Stepped) → Onward mem mem' m n r → Takes s mem mem' m r
     next-steps {n} q r g = record {
       turns = λ R x o out t.
           let y = at_next t w in
           let h = y.top in
-          let z = added y (Worked.Value n) q in
+          let z = added y (Ok n) q in
           folds_on h {phase = Phase.next_number} {l = y.rest} refl {p = y.place} {op = y.op} {c = y.context} {i = y.name} {e = y.operand} {n = n} (record {
             came = z.came;
             same = z.same ∙ bind_at n (onward_numbers y.place y.op y.context y.name y.operand y.rest);

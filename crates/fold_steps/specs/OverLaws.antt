@@ -1,9 +1,10 @@
 -- A big operator: its set is worked out; then its operand at the first element.
-use Rattle.std.specs.Prelude.{ℕ, suc, ◌+◌, ◌≤◌, ◌<◌, false, List, [], ◌∷◌, ◌≡◌, length, get_or}
+use Rattle.std.specs.Prelude.{ℕ, suc, ◌+◌, ◌≤◌, ◌<◌, false, List, [], ◌∷◌, ◌≡◌, length, get_or, Ok}
 use Rattle.std.proofs.Math.Path.{refl}
 use Rattle.std.proofs.Common.{sym, ap, ap₂, ◌∙◌, subst, arith}
 use Rattle.node.specs.Result.{Result, Done, ◌>>=◌}
 use Rattle.node.proofs.ResultLaws.{bind_again, bind_at}
+use Rattle.machine.specs.declared.Move.TheVariants.{Next}
 use Rattle.language.specs.Tokens.{Token}
 use Rattle.language.specs.Operators.{Arithmetic, Plus, Times, Big, BigSum, BigProduct, BigCap, BigCup, BigAnd, BigOr}
 use Rattle.language.specs.Tree.{Expr, Each}
@@ -36,7 +37,6 @@ use Rattle.machine.specs.StartLaws.{StartsTwo}
 use Rattle.machine.specs.BindLaws.{take-number, take-set, then_worth, number-last, set_last}
 use Rattle.machine.specs.OperandLaws.{operand-view, operand_as}
 use Rattle.machine.specs.declared.Machine.{Machine}
-use Rattle.machine.specs.declared.Move.TheVariants.{Next}
 use Rattle.machine.specs.Entering.{Evaluates, Waiting}
 use Rattle.machine.specs.EnteringLaws.{works-value}
 use Rattle.fold_steps.specs.Turning.{Turns, begun, Beginning}
@@ -163,7 +163,7 @@ module _ {s : Source} {mem : List ℕ} {m : Machine} (w : Waiting mem m Phase.ov
       here : {R : Realm s} {out : List ℕ} {x : Result Came} {o : Began} (y : AtOver R mem out m x o) → OpAt s k (Folds y.op) y.place
       here y = subst (λ (j : ℕ). OpAt s j (Folds y.op) y.place) (sym (ek ∙ entry_word_lem y.top)) y.top.at.waits.0
 
-      pub over-logic : Kind.big_formulas ≤ kind_at s.work k → Takes s mem mem m (Next (came (popped m) is_logic 0 0))
+      pub over-logic : Kind.big_formulas ≤ kind_at s.work k → Takes s mem mem m (Ok (Next (came (popped m) is_logic 0 0)))
       over-logic l = record {
         turns = λ R x o out t.
             let y = at_over_lem t w in
@@ -189,7 +189,7 @@ module _ {s : Source} {mem : List ℕ} {m : Machine} (w : Waiting mem m Phase.ov
       }
 
       module _ {mem' : List ℕ} {n : Machine} (z : m.value ≡ 0 → ⊥) where
-        pub over-numbers : kind_at s.work k < Kind.big_sets → Turns mem mem' m (begun mem m Phase.first_number) m.depth (get_or mem m.from 0) (mode_of Evaluate) (above m) n → Takes s mem mem' m (Next n)
+        pub over-numbers : kind_at s.work k < Kind.big_sets → Turns mem mem' m (begun mem m Phase.first_number) m.depth (get_or mem m.from 0) (mode_of Evaluate) (above m) n → Takes s mem mem' m (Ok (Next n))
         over-numbers l b = record {
           turns = λ R x o out t.
               let y = at_over_lem t w in
@@ -212,7 +212,7 @@ module _ {s : Source} {mem : List ℕ} {m : Machine} (w : Waiting mem m Phase.ov
               });
         }
 
-        pub over-sets : Kind.big_sets ≤ kind_at s.work k → kind_at s.work k < Kind.big_formulas → Turns mem mem' m (begun mem m Phase.first_set) m.depth (get_or mem m.from 0) (mode_of Evaluate) (above m) n → Takes s mem mem' m (Next n)
+        pub over-sets : Kind.big_sets ≤ kind_at s.work k → kind_at s.work k < Kind.big_formulas → Turns mem mem' m (begun mem m Phase.first_set) m.depth (get_or mem m.from 0) (mode_of Evaluate) (above m) n → Takes s mem mem' m (Ok (Next n))
         over-sets l1 l2 b = record {
           turns = λ R x o out t.
               let y = at_over_lem t w in

@@ -1,18 +1,19 @@
 -- A big operator of sets: its operand has come, at the first element or at a further one.
-use Rattle.std.specs.Prelude.{ℕ, suc, ◌+◌, ◌-◌, ◌≤◌, List, [], ◌≡◌, refl, length, get_or, take, drop}
+use Rattle.std.specs.Prelude.{ℕ, suc, ◌+◌, ◌-◌, ◌≤◌, List, [], ◌≡◌, refl, length, get_or, take, drop, Ok, Err}
 use Rattle.std.proofs.Common.{sym, ap, ap₂, ◌∙◌, subst, arith, length-drop, length-take-le}
 use Rattle.node.specs.Result.{Result, Refused, ◌>>=◌}
 use Rattle.node.proofs.ResultLaws.{bind_at, bind_refused}
+use Rattle.node.specs.Returned.{refusal}
+use Rattle.machine.specs.Stepped.{Stepped}
 use Rattle.language.specs.Limits.{max_elements}
 use Rattle.language.specs.Tokens.{Token}
 use Rattle.language.specs.Operators.{Combination, Big}
 use Rattle.language.specs.Tree.{Expr}
 use Rattle.language.specs.Sets.{combine}
 use Rattle.language.specs.Values.{Set, limited}
-use Rattle.language.specs.Expansion.{Context, at}
+use Rattle.language.specs.Expansion.{Context}
 use Rattle.language.proofs.Laws.Basics.Results.{value_of}
 use Rattle.sets.specs.Operators.{combination}
-use Rattle.sets.specs.declared.Worked.{Worked}
 use Rattle.operators.specs.Tables.{prefix_code_at}
 use Rattle.operands.specs.Entries.{place_at, number_at}
 use Rattle.operands.specs.Working.{Source}
@@ -29,14 +30,11 @@ use Rattle.machine.specs.Memory.{set_words, Held}
 use Rattle.machine.specs.SetLaws.{sits_low, held_words}
 use Rattle.machine.specs.Telling.{is_set}
 use Rattle.machine.specs.Table.{Began}
-use Rattle.machine.specs.Cost.{turns}
 use Rattle.machine.specs.States.{TopOf, Top, Topped, Takes}
 use Rattle.machine.specs.ComeLaws.{IsSet, came-set}
 use Rattle.machine.specs.FrameViews.{by_phase}
 use Rattle.machine.specs.TakeLaws.{entry_word_lem, value-word, other_word, refuses-late, top-phase, top_as}
 use Rattle.machine.specs.declared.Machine.{Machine}
-use Rattle.machine.specs.declared.Move.{Move}
-use Rattle.machine.specs.declared.Move.TheVariants.{Refused as Refuses}
 use Rattle.machine.specs.Entering.{Waiting}
 use Rattle.value_steps.specs.CombinedLaws.{answer}
 use Rattle.value_steps.specs.PlacedLaws.{elements_are, placed as set-placed}
@@ -119,7 +117,7 @@ module _ {s : Source} {mem : List ℕ} {m : Machine} (w : Waiting mem m Phase.fi
         let g = came-set t.realm t.began mem m y.top.came y.top.come e in
         foldable y.top {phase = Phase.first_set} refl (folded-first y g) t.lent.small
 
-    pub first-steps : {mem' : List ℕ} (r : Move) → Onward mem mem' m m.from m.value r → Takes s mem mem' m r
+    pub first-steps : {mem' : List ℕ} (r : Stepped) → Onward mem mem' m m.from m.value r → Takes s mem mem' m r
     first-steps r q = record {
       turns = λ R x o out t.
           let y = at_first t w in
@@ -206,7 +204,7 @@ module _ {s : Source} {mem : List ℕ} {m : Machine} (w : Waiting mem m Phase.ne
           ∙ ap (λ (u : Result (List ℕ)). u >>= onto) (sym (z ∙ as-defined))
 
       -- the set that was made
-      folded-next : {mem₁ : List ℕ} {n : ℕ} → SetAt mem mem₁ to (Worked.Value n) (answer mem m la lc i p)
+      folded-next : {mem₁ : List ℕ} {n : ℕ} → SetAt mem mem₁ to (Ok n) (answer mem m la lc i p)
           → Folding y.top {phase = Phase.next_set} {l = y.rest} {fold = y.sum} refl y.place y.op y.context y.name y.operand (take n (drop to mem₁)) mem₁ to n
       folded-next {mem₁} {n} z =
           let h = y.top in
@@ -234,7 +232,7 @@ module _ {s : Source} {mem : List ℕ} {m : Machine} (w : Waiting mem m Phase.ne
             fewer = λ j. omega arith;
           }
 
-    pub next-refuses : {mem₁ : List ℕ} {number place : ℕ} → SetAt mem mem₁ to (Worked.Refused number place) (answer mem m la lc i p) → Takes s mem mem₁ m (Refuses number place)
+    pub next-refuses : {mem₁ : List ℕ} {number place : ℕ} → SetAt mem mem₁ to (Err (refusal number place)) (answer mem m la lc i p) → Takes s mem mem₁ m (Err (refusal number place))
     next-refuses {number = number} {place} z = record {
       turns = λ R x o out t.
           let y = at_next t w in
@@ -242,14 +240,14 @@ module _ {s : Source} {mem : List ℕ} {m : Machine} (w : Waiting mem m Phase.ne
           refuses-late y.top z.kept.len (comes-to y g z.set.says ∙ bind_refused (Refused number place) number place (onto y g) refl);
     }
 
-    module _ {mem₁ : List ℕ} {n : ℕ} (z : SetAt mem mem₁ to (Worked.Value n) (answer mem m la lc i p)) where
+    module _ {mem₁ : List ℕ} {n : ℕ} (z : SetAt mem mem₁ to (Ok n) (answer mem m la lc i p)) where
       pub next-foldable : Topped s mem m → Foldable mem₁ m to n
       next-foldable t =
           let y = at_next t.top w in
           let g = came-set t.realm t.began mem m y.top.came y.top.come e in
           foldable y.top {phase = Phase.next_set} refl (folded-next y g z) t.lent.small
 
-      pub next-steps : {mem' : List ℕ} (r : Move) → Onward mem₁ mem' m to n r → Takes s mem mem' m r
+      pub next-steps : {mem' : List ℕ} (r : Stepped) → Onward mem₁ mem' m to n r → Takes s mem mem' m r
       next-steps r u = record {
         turns = λ R x o out t.
             let y = at_next t w in

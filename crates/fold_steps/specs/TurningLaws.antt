@@ -1,9 +1,10 @@
 -- A frame is written anew as that of a big operator whose name has come to an element: the operand is worked out with the name bound. For numbers, sets and formulas.
-use Rattle.std.specs.Prelude.{ℕ, suc, ◌+◌, ◌-◌, ◌≤◌, ◌<◌, Bool, false, List, ◌∷◌, ◌++◌, ◌≡◌, refl, length, get_or, set}
+use Rattle.std.specs.Prelude.{ℕ, suc, ◌+◌, ◌-◌, ◌≤◌, ◌<◌, Bool, false, List, ◌∷◌, ◌++◌, ◌≡◌, refl, length, get_or, set, Ok}
 use Rattle.std.proofs.lemmas.Bool.{false≢true}
 use Rattle.std.proofs.Common.{sym, ap, ◌∙◌, subst, arith, get_or-set_same, get_or-set_other}
 use Rattle.node.specs.Limits.{max_nodes}
 use Rattle.node.specs.Result.{Result, ◌>>=◌}
+use Rattle.machine.specs.declared.Move.TheVariants.{Next}
 use Rattle.language.specs.Limits.{max_number}
 use Rattle.language.specs.Tokens.{Token}
 use Rattle.language.specs.Tree.{Expr}
@@ -26,7 +27,6 @@ use Rattle.machine.specs.TakeLaws.{words, room-under, renewed, goes}
 use Rattle.machine.specs.FlatLaws.{weight_falls}
 use Rattle.machine.specs.declared.Words.{Words}
 use Rattle.machine.specs.declared.Machine.{Machine}
-use Rattle.machine.specs.declared.Move.TheVariants.{Next}
 use Rattle.fold_steps.specs.Turning.{turned, Turns}
 
 pub turns-above : {mem mem' : List ℕ} {m : Machine} {w : Words} {slot v mode top top' : ℕ} {n : Machine} → top ≡ top' → Turns mem mem' m w slot v mode top n → Turns mem mem' m w slot v mode top' n
@@ -62,7 +62,7 @@ module _ {s : Source} {R : Realm s} {mem out : List ℕ} {m : Machine} {x : Resu
     pub same : apply F h.came ≡ (works a (at c i v) e >>= apply G)
 
   pub turns_to : {G : Frame} {rest fold : List ℕ} {forms : List Laying} {new : Words} {a : Aim} {c : Context} {i : Token} {e : Expr} {slot v : ℕ} {mem₀ mem' out' : List ℕ} {top nodes : ℕ}
-      → Turning G rest fold forms new a c i e slot v mem₀ mem' out' top nodes → Turned R mem mem' out out' m x o (Next (turned m (mode_of a) (new.entry - 1) slot top nodes))
+      → Turning G rest fold forms new a c i e slot v mem₀ mem' out' top nodes → Turned R mem mem' out out' m x o (Ok (Next (turned m (mode_of a) (new.entry - 1) slot top nodes)))
   turns_to {G} {rest} {fold} {forms} {new} {a} {c} {i} {e} {slot} {v} {mem₀} {mem'} {out'} {top} {nodes} t =
       let z = t.is-turning in
       let e0 : elements G ≡ rest = ap (λ (y : Holding). y.elements) z in

@@ -29,11 +29,10 @@ pub fn turn(
         mode,
         value: w.entry - 1,
         from: 0,
-        scope: m.scope,
         depth: slot + 1,
         top,
         frames: at,
-        nodes: m.nodes,
+        ..m
     }
 }
 

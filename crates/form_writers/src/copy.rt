@@ -5,44 +5,42 @@ ghost use Rattle.node.specs.Table.{tree_at};
 ghost use Rattle.form_writers.specs.Writing.{Wrote, Ready, IsUnary, IsBinary, unary_of, binary_of};
 
 use crate::write::fields_at;
-use node::{MAX_NODES, Node};
+use node::Node;
 use storing::{cap, constant, join, signal};
 
 // An operand below an operator of one operand.
 #[cycle(copy_copy_both_copy_one)]
-fn copy_one(nodes: &[u32], i: usize, op: u32, out: &mut [u32], at: usize) -> usize
+fn copy_one(nodes: &[u32], i: usize, op: u32, out: &mut [u32], at: usize) -> Option<usize>
     requires ready { Ready nodes.now i out.old at }
     requires unary { IsUnary op }
     ensures { Wrote result (One (unary_of op) ((tree_at nodes.now i))) out.old out.new at }
 {
-    let m = copy(nodes, i, out, at);
-    if MAX_NODES < m {
-        return m;
-    }
+    let m = copy(nodes, i, out, at)?;
     cap(op, m, out)
 }
 
 // Two operands below an operator of two.
 #[cycle(copy_copy_both_copy_one)]
-fn copy_both(nodes: &[u32], a: usize, b: usize, op: u32, out: &mut [u32], at: usize) -> usize
+fn copy_both(
+    nodes: &[u32],
+    a: usize,
+    b: usize,
+    op: u32,
+    out: &mut [u32],
+    at: usize,
+) -> Option<usize>
     requires ready { Ready nodes.now (max a b) out.old at }
     requires binary { IsBinary op }
     ensures { Wrote result (Two (binary_of op) ((tree_at nodes.now a)) ((tree_at nodes.now b))) out.old out.new at }
 {
-    let m = copy(nodes, a, out, at);
-    if MAX_NODES < m {
-        return m;
-    }
-    let n = copy(nodes, b, out, m);
-    if MAX_NODES < n {
-        return n;
-    }
+    let m = copy(nodes, a, out, at)?;
+    let n = copy(nodes, b, out, m)?;
     join(op, m, n, out)
 }
 
 // A node's formula.
 #[cycle(copy_copy_both_copy_one)]
-pub fn copy(nodes: &[u32], i: usize, out: &mut [u32], at: usize) -> usize
+pub fn copy(nodes: &[u32], i: usize, out: &mut [u32], at: usize) -> Option<usize>
     requires { Ready nodes.now i out.old at }
     ensures { Wrote result (tree_at nodes.now i) out.old out.new at }
 {
@@ -50,6 +48,7 @@ pub fn copy(nodes: &[u32], i: usize, out: &mut [u32], at: usize) -> usize
     let k = node.kind;
     let a = node.first;
     let b = node.second;
+    // An arm for each kind, with the operands that its function takes: a table of functions would need one type for all.
     match k {
         Node::TRUE => constant(Node::TRUE, out, at),
         Node::FALSE => constant(Node::FALSE, out, at),

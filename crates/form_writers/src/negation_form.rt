@@ -6,7 +6,7 @@ ghost use Rattle.forms.specs.Forms.{plain as plain', negated as negated'};
 ghost use Rattle.form_writers.specs.Writing.{dual_kind, Wrote, Ready, IsUnary, IsBinary, unary_of, binary_of};
 
 use crate::write::{fields_at, not_signal};
-use node::{MAX_NODES, Node};
+use node::Node;
 use storing::{cap, constant, join, signal};
 
 // The kind of the dual operator.
@@ -26,157 +26,137 @@ fn dual(kind: u32) -> u32
 
 // An operand, plain or negated, below an operator of one operand.
 #[cycle(both_negated_both_plain_differ_equal_negated_negated_one_negated_plain_not_weak_plain_plain_negated_plain_one)]
-fn plain_one(nodes: &[u32], i: usize, op: u32, out: &mut [u32], at: usize) -> usize
+fn plain_one(nodes: &[u32], i: usize, op: u32, out: &mut [u32], at: usize) -> Option<usize>
     requires ready { Ready nodes.now i out.old at }
     requires unary { IsUnary op }
     ensures { Wrote result (One (unary_of op) (plain' (tree_at nodes.now i))) out.old out.new at }
 {
-    let m = plain(nodes, i, out, at);
-    if MAX_NODES < m {
-        return m;
-    }
+    let m = plain(nodes, i, out, at)?;
     cap(op, m, out)
 }
 
 #[cycle(both_negated_both_plain_differ_equal_negated_negated_one_negated_plain_not_weak_plain_plain_negated_plain_one)]
-fn negated_one(nodes: &[u32], i: usize, op: u32, out: &mut [u32], at: usize) -> usize
+fn negated_one(nodes: &[u32], i: usize, op: u32, out: &mut [u32], at: usize) -> Option<usize>
     requires ready { Ready nodes.now i out.old at }
     requires unary { IsUnary op }
     ensures { Wrote result (One (unary_of op) (negated' (tree_at nodes.now i))) out.old out.new at }
 {
-    let m = negated(nodes, i, out, at);
-    if MAX_NODES < m {
-        return m;
-    }
+    let m = negated(nodes, i, out, at)?;
     cap(op, m, out)
 }
 
 // Two operands, each plain or negated, below an operator of two.
 #[cycle(both_negated_both_plain_differ_equal_negated_negated_one_negated_plain_not_weak_plain_plain_negated_plain_one)]
-fn both_plain(nodes: &[u32], a: usize, b: usize, op: u32, out: &mut [u32], at: usize) -> usize
+fn both_plain(
+    nodes: &[u32],
+    a: usize,
+    b: usize,
+    op: u32,
+    out: &mut [u32],
+    at: usize,
+) -> Option<usize>
     requires ready { Ready nodes.now (max a b) out.old at }
     requires binary { IsBinary op }
     ensures { Wrote result (Two (binary_of op) (plain' (tree_at nodes.now a)) (plain' (tree_at nodes.now b))) out.old out.new at }
 {
-    let m = plain(nodes, a, out, at);
-    if MAX_NODES < m {
-        return m;
-    }
-    let n = plain(nodes, b, out, m);
-    if MAX_NODES < n {
-        return n;
-    }
+    let m = plain(nodes, a, out, at)?;
+    let n = plain(nodes, b, out, m)?;
     join(op, m, n, out)
 }
 
 #[cycle(both_negated_both_plain_differ_equal_negated_negated_one_negated_plain_not_weak_plain_plain_negated_plain_one)]
-fn both_negated(nodes: &[u32], a: usize, b: usize, op: u32, out: &mut [u32], at: usize) -> usize
+fn both_negated(
+    nodes: &[u32],
+    a: usize,
+    b: usize,
+    op: u32,
+    out: &mut [u32],
+    at: usize,
+) -> Option<usize>
     requires ready { Ready nodes.now (max a b) out.old at }
     requires binary { IsBinary op }
     ensures { Wrote result (Two (binary_of op) (negated' (tree_at nodes.now a)) (negated' (tree_at nodes.now b))) out.old out.new at }
 {
-    let m = negated(nodes, a, out, at);
-    if MAX_NODES < m {
-        return m;
-    }
-    let n = negated(nodes, b, out, m);
-    if MAX_NODES < n {
-        return n;
-    }
+    let m = negated(nodes, a, out, at)?;
+    let n = negated(nodes, b, out, m)?;
     join(op, m, n, out)
 }
 
 #[cycle(both_negated_both_plain_differ_equal_negated_negated_one_negated_plain_not_weak_plain_plain_negated_plain_one)]
-fn plain_negated(nodes: &[u32], a: usize, b: usize, op: u32, out: &mut [u32], at: usize) -> usize
+fn plain_negated(
+    nodes: &[u32],
+    a: usize,
+    b: usize,
+    op: u32,
+    out: &mut [u32],
+    at: usize,
+) -> Option<usize>
     requires ready { Ready nodes.now (max a b) out.old at }
     requires binary { IsBinary op }
     ensures { Wrote result (Two (binary_of op) (plain' (tree_at nodes.now a)) (negated' (tree_at nodes.now b))) out.old out.new at }
 {
-    let m = plain(nodes, a, out, at);
-    if MAX_NODES < m {
-        return m;
-    }
-    let n = negated(nodes, b, out, m);
-    if MAX_NODES < n {
-        return n;
-    }
+    let m = plain(nodes, a, out, at)?;
+    let n = negated(nodes, b, out, m)?;
     join(op, m, n, out)
 }
 
 #[cycle(both_negated_both_plain_differ_equal_negated_negated_one_negated_plain_not_weak_plain_plain_negated_plain_one)]
-fn negated_plain(nodes: &[u32], a: usize, b: usize, op: u32, out: &mut [u32], at: usize) -> usize
+fn negated_plain(
+    nodes: &[u32],
+    a: usize,
+    b: usize,
+    op: u32,
+    out: &mut [u32],
+    at: usize,
+) -> Option<usize>
     requires ready { Ready nodes.now (max a b) out.old at }
     requires binary { IsBinary op }
     ensures { Wrote result (Two (binary_of op) (negated' (tree_at nodes.now a)) (plain' (tree_at nodes.now b))) out.old out.new at }
 {
-    let m = negated(nodes, a, out, at);
-    if MAX_NODES < m {
-        return m;
-    }
-    let n = plain(nodes, b, out, m);
-    if MAX_NODES < n {
-        return n;
-    }
+    let m = negated(nodes, a, out, at)?;
+    let n = plain(nodes, b, out, m)?;
     join(op, m, n, out)
 }
 
 // a <-> b: (a && b) || (!a && !b)
 #[cycle(both_negated_both_plain_differ_equal_negated_negated_one_negated_plain_not_weak_plain_plain_negated_plain_one)]
-fn equal(nodes: &[u32], a: usize, b: usize, out: &mut [u32], at: usize) -> usize
+fn equal(nodes: &[u32], a: usize, b: usize, out: &mut [u32], at: usize) -> Option<usize>
     requires { Ready nodes.now (max a b) out.old at }
     ensures { Wrote result (Two Or (Two And (plain' (tree_at nodes.now a)) (plain' (tree_at nodes.now b)))
         (Two And (negated' (tree_at nodes.now a)) (negated' (tree_at nodes.now b)))) out.old out.new at }
 {
-    let m = both_plain(nodes, a, b, Node::AND, out, at);
-    if MAX_NODES < m {
-        return m;
-    }
-    let n = both_negated(nodes, a, b, Node::AND, out, m);
-    if MAX_NODES < n {
-        return n;
-    }
+    let m = both_plain(nodes, a, b, Node::AND, out, at)?;
+    let n = both_negated(nodes, a, b, Node::AND, out, m)?;
     join(Node::OR, m, n, out)
 }
 
 // !(a <-> b): (a && !b) || (!a && b)
 #[cycle(both_negated_both_plain_differ_equal_negated_negated_one_negated_plain_not_weak_plain_plain_negated_plain_one)]
-fn differ(nodes: &[u32], a: usize, b: usize, out: &mut [u32], at: usize) -> usize
+fn differ(nodes: &[u32], a: usize, b: usize, out: &mut [u32], at: usize) -> Option<usize>
     requires { Ready nodes.now (max a b) out.old at }
     ensures { Wrote result (Two Or (Two And (plain' (tree_at nodes.now a)) (negated' (tree_at nodes.now b)))
         (Two And (negated' (tree_at nodes.now a)) (plain' (tree_at nodes.now b)))) out.old out.new at }
 {
-    let m = plain_negated(nodes, a, b, Node::AND, out, at);
-    if MAX_NODES < m {
-        return m;
-    }
-    let n = negated_plain(nodes, a, b, Node::AND, out, m);
-    if MAX_NODES < n {
-        return n;
-    }
+    let m = plain_negated(nodes, a, b, Node::AND, out, at)?;
+    let n = negated_plain(nodes, a, b, Node::AND, out, m)?;
     join(Node::OR, m, n, out)
 }
 
 // !(a W b): !b U (!a && !b)
 #[cycle(both_negated_both_plain_differ_equal_negated_negated_one_negated_plain_not_weak_plain_plain_negated_plain_one)]
-fn not_weak(nodes: &[u32], a: usize, b: usize, out: &mut [u32], at: usize) -> usize
+fn not_weak(nodes: &[u32], a: usize, b: usize, out: &mut [u32], at: usize) -> Option<usize>
     requires { Ready nodes.now (max a b) out.old at }
     ensures { Wrote result (Two U (negated' (tree_at nodes.now b)) (Two And (negated' (tree_at nodes.now a)) (negated' (tree_at nodes.now b)))) out.old
         out.new at }
 {
-    let m = negated(nodes, b, out, at);
-    if MAX_NODES < m {
-        return m;
-    }
-    let n = both_negated(nodes, a, b, Node::AND, out, m);
-    if MAX_NODES < n {
-        return n;
-    }
+    let m = negated(nodes, b, out, at)?;
+    let n = both_negated(nodes, a, b, Node::AND, out, m)?;
     join(Node::UNTIL, m, n, out)
 }
 
 // A node's formula in negation form.
 #[cycle(both_negated_both_plain_differ_equal_negated_negated_one_negated_plain_not_weak_plain_plain_negated_plain_one)]
-pub fn plain(nodes: &[u32], i: usize, out: &mut [u32], at: usize) -> usize
+pub fn plain(nodes: &[u32], i: usize, out: &mut [u32], at: usize) -> Option<usize>
     requires { Ready nodes.now i out.old at }
     ensures { Wrote result (plain' (tree_at nodes.now i)) out.old out.new at }
 {
@@ -184,6 +164,7 @@ pub fn plain(nodes: &[u32], i: usize, out: &mut [u32], at: usize) -> usize
     let k = node.kind;
     let a = node.first;
     let b = node.second;
+    // An arm for each kind, with the operands that its function takes: a table of functions would need one type for all.
     match k {
         Node::TRUE => constant(Node::TRUE, out, at),
         Node::FALSE => constant(Node::FALSE, out, at),
@@ -198,7 +179,7 @@ pub fn plain(nodes: &[u32], i: usize, out: &mut [u32], at: usize) -> usize
 
 // The negation of a node's formula in negation form.
 #[cycle(both_negated_both_plain_differ_equal_negated_negated_one_negated_plain_not_weak_plain_plain_negated_plain_one)]
-pub fn negated(nodes: &[u32], i: usize, out: &mut [u32], at: usize) -> usize
+pub fn negated(nodes: &[u32], i: usize, out: &mut [u32], at: usize) -> Option<usize>
     requires { Ready nodes.now i out.old at }
     ensures { Wrote result (negated' (tree_at nodes.now i)) out.old out.new at }
 {
@@ -206,6 +187,7 @@ pub fn negated(nodes: &[u32], i: usize, out: &mut [u32], at: usize) -> usize
     let k = node.kind;
     let a = node.first;
     let b = node.second;
+    // An arm for each kind, with the operands that its function takes: a table of functions would need one type for all.
     match k {
         Node::TRUE => constant(Node::FALSE, out, at),
         Node::FALSE => constant(Node::TRUE, out, at),

@@ -7,18 +7,15 @@ ghost use Rattle.node.specs.Kinds.{shape_of, unary_kind};
 ghost use Rattle.node.specs.Formed.{Formed, NodeIs};
 ghost use Rattle.form_writers.specs.Writing.{Puts, Wrote, Room};
 
-use node::{MAX_NODES, Node};
+use node::Node;
 use storing::{cap, constant, join, signal};
 
 // An operator whose operands are the nodes before m and before n, below a `!`.
-pub fn join_not(op: u32, m: usize, n: usize, out: &mut [u32]) -> usize
+pub fn join_not(op: u32, m: usize, n: usize, out: &mut [u32]) -> Option<usize>
     requires { (op < kind_limit) × ((1 ≤ m) × ((m ≤ n) × Room out.old n)) }
     ensures { Puts result (pack op (m - 1) (n - 1) ∷ pack (unary_kind Not) n 0 ∷ []) out.old out.new n }
 {
-    let k = join(op, m, n, out);
-    if MAX_NODES < k {
-        return k;
-    }
+    let k = join(op, m, n, out)?;
     cap(Node::NOT, k, out)
 }
 
@@ -43,25 +40,19 @@ pub fn fields_at(nodes: &[u32], i: usize) -> Fields
 }
 
 // !true, the core form of false
-pub fn not_true(out: &mut [u32], at: usize) -> usize
+pub fn not_true(out: &mut [u32], at: usize) -> Option<usize>
     requires { Room out.old at }
     ensures { Wrote result (One Not True) out.old out.new at }
 {
-    let m = constant(Node::TRUE, out, at);
-    if MAX_NODES < m {
-        return m;
-    }
+    let m = constant(Node::TRUE, out, at)?;
     cap(Node::NOT, m, out)
 }
 
 // ! and a signal.
-pub fn not_signal(k: usize, out: &mut [u32], at: usize) -> usize
+pub fn not_signal(k: usize, out: &mut [u32], at: usize) -> Option<usize>
     requires { (k < field_limit) × Room out.old at }
     ensures { Wrote result (One Not (Signal k)) out.old out.new at }
 {
-    let m = signal(k, out, at);
-    if MAX_NODES < m {
-        return m;
-    }
+    let m = signal(k, out, at)?;
     cap(Node::NOT, m, out)
 }

@@ -4,6 +4,7 @@
 ghost use Rattle.std.specs.Prelude.{◌≡◌};
 ghost use Rattle.forms.specs.Forms.{form_numbers};
 
+// Numbers and no enum: C hands the form over as one, of which any but these three is refused (21).
 pub const AS_EXPANDED: u32 = 0;
 
 pub const NEGATION_FORM: u32 = 1;

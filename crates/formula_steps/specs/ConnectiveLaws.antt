@@ -1,5 +1,5 @@
 -- A connective: its left operand, its right operand.
-use Rattle.std.specs.Prelude.{ℕ, suc, ◌+◌, ◌<◌, min, List, ◌≡◌, refl, get_or}
+use Rattle.std.specs.Prelude.{ℕ, suc, ◌+◌, ◌<◌, min, List, ◌≡◌, refl, get_or, Ok}
 use Rattle.std.proofs.Common.{sym, ap, ◌∙◌, subst, arith}
 use Rattle.node.specs.Limits.{max_nodes}
 use Rattle.node.specs.Operators.{Binary}
@@ -7,6 +7,7 @@ use Rattle.node.specs.Ltl.{Formula, Two}
 use Rattle.node.specs.Kinds.{binary_kind}
 use Rattle.node.specs.Result.{Result, Done, ◌>>=◌}
 use Rattle.node.proofs.ResultLaws.{bind_at}
+use Rattle.machine.specs.declared.Move.TheVariants.{Next}
 use Rattle.writing.specs.Writing.{Wrote, Joins}
 use Rattle.writing.specs.StayLaws.{two_stays}
 use Rattle.language.specs.Tree.{Expr}
@@ -35,7 +36,6 @@ use Rattle.machine.specs.RenewLaws.{follows-last}
 use Rattle.machine.specs.FormulaLaws.{formula-laid, finishes}
 use Rattle.machine.specs.BindLaws.{take-formula, then_nodes}
 use Rattle.machine.specs.declared.Machine.{Machine}
-use Rattle.machine.specs.declared.Move.TheVariants.{Next}
 use Rattle.machine.specs.Entering.{Expands, Waiting}
 use Rattle.machine.specs.EnteringLaws.{works-formula, operand_making}
 
@@ -74,7 +74,7 @@ connective-starts {s} {mem} {m} k =
 
 -- the left operand has come
 module _ {s : Source} {mem : List ℕ} {m : Machine} (w : Waiting mem m Phase.left_formula) where
-  pub left-steps : m.mode ≡ is_nodes → {mem' : List ℕ} {i : ℕ} {n : Machine} → i ≡ m.nodes → Renewed mem mem' m Phase.right_formula 0 i 0 (mode_of Expand) n → Takes s mem mem' m (Next n)
+  pub left-steps : m.mode ≡ is_nodes → {mem' : List ℕ} {i : ℕ} {n : Machine} → i ≡ m.nodes → Renewed mem mem' m Phase.right_formula 0 i 0 (mode_of Expand) n → Takes s mem mem' m (Ok (Next n))
   left-steps e en q = record {
     turns = λ R x o out t.
         let v = by_phase t.frame Phase.left_formula (top-phase t ∙ w.phase) in
@@ -106,7 +106,7 @@ module _ {s : Source} {mem out : List ℕ} {m : Machine} (w : Waiting mem m Phas
       subst (λ (j : ℕ). j < 16) (sym e) (binary-small v.0)
 
   pub right-steps : m.mode ≡ is_nodes → {k op a r n : ℕ} {out' : List ℕ} → k ≡ get_or mem (m.frames + entry_field) 0 → op ≡ infix_code_at (number_at s.work k) → a ≡ get_or mem (m.frames + value_field) 0
-      → Joins op out out' a m.nodes r → n ≡ min r (suc max_nodes) → TakesToWrite s mem mem out out' m (Next (wrote (popped m) n))
+      → Joins op out out' a m.nodes r → n ≡ min r (suc max_nodes) → TakesToWrite s mem mem out out' m (Ok (Next (wrote (popped m) n)))
   right-steps e {k} {op} {a} {r} {n} {out'} ek eo ea j en = record {
     turns = λ R x o t.
         let v = by_phase t.frame Phase.right_formula (top-phase t ∙ w.phase) in

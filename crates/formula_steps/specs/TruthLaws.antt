@@ -1,10 +1,11 @@
 -- true and false.
-use Rattle.std.specs.Prelude.{ℕ, suc, ◌≤◌, ◌<◌, min, Bool, List, [], ◌≡◌, eqb, length}
+use Rattle.std.specs.Prelude.{ℕ, suc, ◌≤◌, ◌<◌, min, Bool, List, [], ◌≡◌, eqb, length, Ok}
 use Rattle.std.proofs.Common.{sym, ap, ◌∙◌, subst, arith}
 use Rattle.node.specs.Limits.{max_nodes}
 use Rattle.node.specs.Ltl.{Formula}
 use Rattle.node.specs.Result.{◌>>=◌}
 use Rattle.node.proofs.ResultLaws.{bind_at}
+use Rattle.machine.specs.declared.Move.TheVariants.{Next}
 use Rattle.writing.specs.Writing.{Wrote}
 use Rattle.language.specs.Limits.{max_tokens, work_bytes}
 use Rattle.language.specs.Tree.{Expr}
@@ -24,7 +25,6 @@ use Rattle.machine.specs.EnterLaws.{writes, entry_few}
 use Rattle.machine.specs.Moves.{wrote}
 use Rattle.machine.specs.OperandLaws.{operand_as}
 use Rattle.machine.specs.declared.Machine.{Machine}
-use Rattle.machine.specs.declared.Move.TheVariants.{Next}
 use Rattle.machine.specs.Entering.{Expands}
 use Rattle.machine.specs.EnteringLaws.{works-formula, operand_making}
 
@@ -33,7 +33,7 @@ pub written_entry : {s : Source} {mem out : List ℕ} {m : Machine} → ReadyToW
 written_entry h l = (entry_few (entered h.state l), h.lent.work)
 
 pub truth-steps : {s : Source} {mem out out' : List ℕ} {m : Machine} {number r n : ℕ} {b : Bool} → Expands s.work m Kind.truth Kind.index → number ≡ number_at s.work m.value
-    → b ≡ eqb number (fixed "true") → Wrote (Expansion.truth b) out out' m.nodes r → n ≡ min r (suc max_nodes) → Writes s mem mem out out' m (Next (wrote m n))
+    → b ≡ eqb number (fixed "true") → Wrote (Expansion.truth b) out out' m.nodes r → n ≡ min r (suc max_nodes) → Writes s mem mem out out' m (Ok (Next (wrote m n)))
 truth-steps {s} {out = out} {out'} {m} {number} {r} {n} {b} k ek eb w en = record {
   turns = λ R x o h.
       let e = k.mode in

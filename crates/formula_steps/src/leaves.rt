@@ -1,29 +1,23 @@
 // Formulas without operands.
 ghost use Rattle.entries.specs.Kinds as Kind;
 ghost use Rattle.machine.specs.States.{ReadyToWrite, Writes};
-ghost use Rattle.operands.specs.Working.{source};
+ghost use Rattle.operands.specs.Working.{view};
 ghost use Rattle.machine.specs.Entering.{Expands};
 
 use lexer::numbers;
-use machine::{Machine, Move, capped};
+use machine::{Machine, Move, Stepped, capped};
 use node::MAX_NODES;
+use operands::Source;
 use operands::entry::number_at;
 use writing::constant;
 
 // true and false.
-pub fn truth(
-    text: &[u8],
-    work: &[u8],
-    refs: &[u16],
-    memory: &[u32],
-    table: &mut [u32; MAX_NODES],
-    m: Machine,
-) -> Move
-    requires ready_to_write { ReadyToWrite (source text.now work.now refs.now) memory.now table.old m }
-    requires expands { Expands work.now m Kind.truth Kind.index }
-    ensures { Writes (source text.now work.now refs.now) memory.now memory.now table.old table.new m result }
+pub fn truth(source: &Source, memory: &[u32], table: &mut [u32; MAX_NODES], m: Machine) -> Stepped
+    requires ready_to_write { ReadyToWrite (view source.now) memory.now table.old m }
+    requires expands { Expands source.now.work.now m Kind.truth Kind.index }
+    ensures { Writes (view source.now) memory.now memory.now table.old table.new m result }
 {
     let k = m.value as usize;
-    let n = constant(number_at(work, k) == numbers::TRUE, table, m.nodes);
-    Move::Next(m.wrote(capped(n)))
+    let n = constant(number_at(source.work, k) == numbers::TRUE, table, m.nodes);
+    Ok(Move::Next(m.wrote(capped(n))))
 }

@@ -7,7 +7,7 @@ ghost use Rattle.basics.specs.Told.{max_told};
 ghost use Rattle.input.specs.Counted.{IsPrefixLen, Counted};
 ghost use Rattle.input.specs.Reading.{ReadsAt, CountsAll};
 
-use basics::{MAX_TOLD, least};
+use basics::MAX_TOLD;
 use std::io::{self, Read};
 
 // 65,536 zeros: more bytes than a text has, and the reader's work buffer.
@@ -22,7 +22,7 @@ pub fn within(n: usize, buf: &[u8]) -> usize
     ensures in_bounds { IsPrefixLen result buf.now }
     ensures value { result ≡ min n (length buf.now) }
 {
-    least(n, buf.len())
+    n.min(buf.len())
 }
 
 // One read into the buffer from an index on.
@@ -42,6 +42,7 @@ pub fn fill<R: Read>(reader: &mut R, buf: &mut [u8]) -> io::Result<usize>
     ensures end { IfOk result (λ n. n < length buf.old → IsAtEnd (R.remaining reader.new)) }
 {
     let mut done = 0;
+    // As many bytes at a time as the reader gives.
     while done < buf.len() {
         let got = more(reader, buf, done)?;
         if got == 0 {
@@ -59,12 +60,13 @@ pub fn size<R: Read>(reader: &mut R, first: usize, spare: &mut [u8]) -> io::Resu
     ensures all { 0 < length spare.old → CountsAll (R.remaining reader.old) first result }
 {
     let mut total = first;
+    // As many bytes at a time as the spare buffer holds.
     while total < MAX_TOLD {
         let got = fill(reader, spare)?;
         if got == 0 {
             return Ok(total);
         }
-        total += least(got, MAX_TOLD - total);
+        total += got.min(MAX_TOLD - total);
     }
     Ok(total)
 }

@@ -4,6 +4,7 @@ use Rattle.std.proofs.Math.Path.{refl, ap}
 use Rattle.std.proofs.Common.{ap₂, ◌∙◌, sym, get_or-take, mul-le-mul, arith, ne_eqb, eq-eqb, le-leb, lt-ltb}
 use Rattle.std.proofs.lemmas.Bool.{lt-leb}
 use Rattle.node.specs.Result.{Result, Done, Refused, ◌>>=◌}
+use Rattle.node.specs.Returned.{Returned}
 use Rattle.node.proofs.ResultLaws.{guard-done}
 use Rattle.node.specs.Written.{nodes_of}
 use Rattle.node.proofs.WrittenLaws.{table_of}
@@ -93,9 +94,6 @@ module _ (size n p : ℕ) where
   pub place-length : n ≡ 20 → 0 < p → size ≡ place_told size n p
   place-length e l = ap₂ (λ (a b : Bool). cond (a && b) size p) (sym (eq-eqb n 20 e)) (sym (lt-ltb 0 p l))
 
-  pub moved-refused : {v : Verdict} {q : ℕ} → v ≡ Verdict.Refused n p → q ≡ place_told size n p → finds (Verdict.Refused n q) ≡ moved size (finds v)
-  moved-refused e h = ap (Refused n) h ∙ ap (λ (x : Verdict). moved size (finds x)) (sym e)
-
 -- the same recording's beginning
 module _ (text start whole : List ℕ) {size : ℕ} (b : Begins start size whole) (long : longest < length start) where
   longer : longest < length whole
@@ -123,7 +121,7 @@ module _ (text start whole : List ℕ) {size : ℕ} (b : Begins start size whole
       go (Refused n p) e = let low = refusal_of e (accepting-numbers text work) in ap (Refused n) (place_other size n p (λ q. omega arith))
 
 -- the promise: of a recording that was judged whole, and of one that is too long
-module _ {text start work work' : List ℕ} (size : ℕ) {v : Verdict} (j : JudgesText text start work work' v) where
+module _ {text start work work' : List ℕ} (size : ℕ) {v : Returned Verdict} (j : JudgesText text start work work' v) where
   abbrev chosen : Bool → Result Bool
   chosen b = cond b (judging text start (length work)) (moved size (judging text start (length work)))
 
@@ -135,7 +133,7 @@ module _ {text start work work' : List ℕ} (size : ℕ) {v : Verdict} (j : Judg
         work_left = j.work_left;
       }
 
-  pub start_longer : {r : Verdict} → longest < length start → finds r ≡ moved size (finds v) → JudgesStart text start size work work' r
+  pub start_longer : {r : Returned Verdict} → longest < length start → finds r ≡ moved size (finds v) → JudgesStart text start size work work' r
   start_longer h e =
       let here = e ∙ ap (moved size) j.answer in
       record {

@@ -1,5 +1,5 @@
 -- `judge_text` by stages: the reader's answer into a table and a list of the largest size, then the evaluator's verdict on them.
-use Rattle.std.specs.Prelude.{ℕ, ◌≤◌, ◌≡◌, List, leb}
+use Rattle.std.specs.Prelude.{ℕ, ◌≤◌, ◌≡◌, List, leb, Ok, Err}
 use Rattle.std.proofs.Math.Path.{ap, sym, subst}
 use Rattle.std.proofs.Common.{ap₂, ◌∙◌}
 use Rattle.std.proofs.Math.ListN.{length, take}
@@ -8,8 +8,9 @@ use Rattle.node.specs.Result.{Result, Done, Refused, ◌>>=◌, Counts}
 use Rattle.node.proofs.ResultLaws.{guard-done, guard_bind, bind_done}
 use Rattle.node.specs.Written.{nodes_of, count}
 use Rattle.node.proofs.WrittenLaws.{length_of}
-use Rattle.node.specs.declared.Answer.{Answer}
-use Rattle.node.specs.declared.Answer.TheVariants.{Accepted}
+use Rattle.node.specs.declared.Refusal.{Refusal}
+use Rattle.node.specs.Answer.{Answer}
+use Rattle.node.specs.Returned.{Returned}
 use Rattle.evaluator.specs.Evaluation.{rows_size, verdict_of, finds}
 use Rattle.evaluator.specs.declared.Verdict.{Verdict}
 use Rattle.language.specs.Limits.{max_signals, work_bytes}
@@ -29,7 +30,7 @@ unfolding judging
 judging-accepting text recording work = sym (guard_bind (leb work_bytes work) 17 0 (text_expansion text) (verdict_on recording))
 
 -- the promise follows from the answer
-module _ (text recording : List ℕ) {work work' : List ℕ} {r : Verdict} where
+module _ (text recording : List ℕ) {work work' : List ℕ} {r : Returned Verdict} where
   judged : finds r ≡ judging text recording (length work) → work' ≡ work_after work → JudgesText text recording work work' r
   unfolding judging
   judged e w =
@@ -63,12 +64,13 @@ module _ (recording : List ℕ) {text work work' table table' list list' : List 
       ∙ ap (λ (x : Result NumberedFormula). x >>= verdict_on recording) (sym (reading-accepting text (length work)) ∙ ap₂ (reading text (length work)) (sym large) (sym long) ∙ e)
 
   -- a text that is refused
-  pub read-refused : {n p : ℕ} → a ≡ Answer.Refused n p → JudgesText text recording work work' (Verdict.Refused n p)
+  pub read-refused : {x : Refusal} {r : Returned Verdict} → a ≡ Err x → r ≡ Err x → JudgesText text recording work work' r
   unfolding ◌>>=◌
-  read-refused {n} {p} e = judged text recording (sym (after-reading (Refused n p) (refused read.yields e))) read.yields.work_left
+  read-refused {x} e h =
+      judged text recording (ap finds h ∙ sym (after-reading (Refused x.number x.place) (refused read.yields e))) read.yields.work_left
 
   -- a text that is accepted
-  pub read_accepted : {n s : ℕ} → a ≡ Accepted n s → AtHand text recording work work' table' n s
+  pub read_accepted : {n s : ℕ} → a ≡ Ok (n, s) → AtHand text recording work work' table' n s
   unfolding ◌>>=◌
   read_accepted {n} {s} e =
       let t = accepted read.yields e in
@@ -85,7 +87,7 @@ module _ (recording : List ℕ) {text work work' table table' list list' : List 
       }
 
 -- the evaluator's verdict on what is at hand
-pub read_judged : {text recording work work' table : List ℕ} {n s : ℕ} {r : Verdict} → AtHand text recording work work' table n s
+pub read_judged : {text recording work work' table : List ℕ} {n s : ℕ} {r : Returned Verdict} → AtHand text recording work work' table n s
     → finds r ≡ verdict_of (take n table) s recording (rows_size (take n table) recording) → JudgesText text recording work work' r
 read_judged {recording = recording} g e =
     judged _ recording

@@ -7,9 +7,9 @@ ghost use Rattle.judging.specs.Promise.{JudgesStart, JudgesText};
 ghost use Rattle.judging.specs.Room.{rows_room};
 ghost use Rattle.judging.specs.Longer.{place_told, moved as moved'};
 
-use evaluator::{Verdict, unjudged};
+use evaluator::Verdict;
 use node::refusals::BAD_RECORDING;
-use node::{Answer, MAX_NODES, MAX_SIGNALS};
+use node::{MAX_NODES, MAX_SIGNALS, Refusal};
 use recordings::{LONGEST, MAX_POSITIONS};
 
 // The longest row for each of the most nodes: 2 MB.
@@ -23,7 +23,7 @@ fn room() -> [u8; ROWS]
 }
 
 // The verdict on a table. The rows take 2 MB of stack; compiled into its caller, also while the text is read.
-fn verdict(nodes: &[u32], signals: u32, recording: &[u8]) -> Verdict
+fn verdict(nodes: &[u32], signals: u32, recording: &[u8]) -> Result<Verdict, Refusal>
     ensures { finds result ≡ verdict_of nodes.now signals recording.now (rows_size nodes.now recording.now) }
 {
     let mut rows = room();
@@ -32,15 +32,12 @@ fn verdict(nodes: &[u32], signals: u32, recording: &[u8]) -> Verdict
 
 // Does the text hold at position 0 of the recording's infinite word? A refusal of the reader comes before those of the evaluator. The first 65,536 bytes of `work` are
 // zero afterwards, unless it is shorter.
-pub fn judge_text(text: &[u8], recording: &[u8], work: &mut [u8]) -> Verdict
+pub fn judge_text(text: &[u8], recording: &[u8], work: &mut [u8]) -> Result<Verdict, Refusal>
     ensures { JudgesText text.now recording.now work.old work.new result }
 {
     let mut table: [u32; MAX_NODES] = [0; MAX_NODES];
     let mut list: [u32; MAX_SIGNALS] = [0; MAX_SIGNALS];
-    let read = reader::read(text, work, &mut table, &mut list);
-    let Answer::Accepted(count, listed) = read else {
-        return unjudged(read);
-    };
+    let (count, listed) = reader::read(text, work, &mut table, &mut list)?;
     let n = count as usize;
     verdict(&table[..n], listed, recording)
 }
@@ -58,26 +55,28 @@ fn place_told(number: u32, place: u32, size: u32) -> u32
     size
 }
 
-// The verdict with another length in it, if it tells one.
-fn moved(verdict: Verdict, size: u32) -> Verdict
-    ensures { finds result ≡ moved' size (finds verdict) }
+// What was found with another length in it, if it tells one.
+fn moved(found: Result<Verdict, Refusal>, size: u32) -> Result<Verdict, Refusal>
+    ensures { finds result ≡ moved' size (finds found) }
 {
-    match verdict {
-        Verdict::Refused(number, place) => {
-            Verdict::Refused(number, place_told(number, place, size))
-        }
-        Verdict::Holds => Verdict::Holds,
-        Verdict::Fails => Verdict::Fails,
-    }
+    found.map_err(|refusal| Refusal {
+        number: refusal.number,
+        place: place_told(refusal.number, refusal.place, size),
+    })
 }
 
 // The verdict on a recording of `size` bytes, of which `start` has all, or more than the longest recording has.
-pub fn judge_start(text: &[u8], start: &[u8], size: u32, work: &mut [u8]) -> Verdict
+pub fn judge_start(
+    text: &[u8],
+    start: &[u8],
+    size: u32,
+    work: &mut [u8],
+) -> Result<Verdict, Refusal>
     ensures { JudgesStart text.now start.now size work.old work.new result }
 {
-    let verdict = judge_text(text, start, work);
+    let found = judge_text(text, start, work);
     if start.len() <= LONGEST {
-        return verdict;
+        return found;
     }
-    moved(verdict, size)
+    moved(found, size)
 }

@@ -2,6 +2,7 @@
 use Rattle.std.specs.Prelude.{ℕ, zero, suc, ◌+◌, ◌*◌, ◌<◌, ◌≤◌, min, ◌≡◌, true, false, List, [], ◌∷◌, ◌++◌, eqb, length, get_or}
 use Rattle.node.specs.Ltl.{Formula}
 use Rattle.node.specs.Result.{Result, Done, guard, ◌>>=◌}
+use Rattle.node.specs.Returned.{Returned}
 use Rattle.node.specs.Table.{root}
 use Rattle.basics.specs.Told.{max_told}
 use Rattle.language.specs.Limits.{max_name}
@@ -13,7 +14,6 @@ use Rattle.basic.specs.Answer.{tells}
 use Rattle.basic.specs.Spelling.{names_of, side_of}
 use Rattle.basic.specs.Basic.{basic_tokens, parted}
 use Rattle.basic.specs.Writing.{fits, fault_from, bytes_told, text_after}
-use Rattle.basic.specs.declared.Written.{Written}
 use Rattle.signal_names.specs.Promise.{slot_bytes}
 use Rattle.layout.specs.Layout.{layout, weight, nth}
 
@@ -83,7 +83,7 @@ pub record Sizes (sizes list : List ℕ) (f : Formula) (r : ℕ) : Type 0 where
   pub small : r ≤ 2 * max_told
 
 -- an answer and the lent buffer after it, of what the definition gives
-pub record Delivers (r : Result (List ℕ)) (out out' : List ℕ) (w : Written) : Type 0 where
+pub record Delivers (r : Result (List ℕ)) (out out' : List ℕ) (w : Returned ℕ) : Type 0 where
   pub answer : tells w ≡ bytes_told r
   pub text_left : out' ≡ text_after r out
 

@@ -1,7 +1,6 @@
 -- The whole text: its size, whether it fits, and that it is the definition's.
-use Rattle.std.specs.Prelude.{ℕ, ◌+◌, ◌-◌, ◌<◌, ◌≤◌, ◌≡◌, refl, Bool, true, false, ◌&&◌, List, ◌++◌, leb, length, drop}
+use Rattle.std.specs.Prelude.{ℕ, ◌+◌, ◌-◌, ◌<◌, ◌≤◌, ◌≡◌, refl, Bool, true, false, ◌&&◌, List, ◌++◌, leb, length, drop, Ok, Err}
 use Rattle.std.proofs.Common.{ap, ap₂, ◌∙◌, length-append, arith, le-leb}
-use Rattle.std.proofs.Math.Option.{some}
 use Rattle.std.proofs.lemmas.List.Edits.{sets, sets-eq}
 use Rattle.std.proofs.lemmas.Bool.{lt-leb}
 use Rattle.node.specs.Ltl.{Formula, True, False, Signal, One, Two}
@@ -9,11 +8,10 @@ use Rattle.node.specs.Result.{Result, Done, Refused, ◌>>=◌}
 use Rattle.node.proofs.ResultLaws.{guard-pass, guard-stop}
 use Rattle.node.specs.Postorder.{SignalsBelow}
 use Rattle.node.proofs.PostorderLaws.{tree-signals}
+use Rattle.node.specs.Returned.{refusal}
 use Rattle.node.specs.Table.{root}
 use Rattle.language.specs.Tree.{Model, Mealy, Moore}
 use Rattle.basics.specs.Told.{max_told}
-use Rattle.basic.specs.Writing.{fits}
-use Rattle.basic.specs.declared.Written.{Written}
 use Rattle.signal_names.specs.Runs.{puts_after, puts_length}
 use Rattle.signal_names.specs.Promise.{slot, Held, Puts}
 use Rattle.layout.specs.Layout.{layout, weight, nth}
@@ -104,14 +102,14 @@ module _ (m : Model) (name : ℕ → List ℕ) (list : List ℕ) (f : Formula) (
               text-put p7 = puts_after p1 (puts_after p2 (puts_after p3 (puts_after p4 (puts_after p5 (puts_after p6 p7)))))
 
 -- an answer of what the definition gives
-pub delivers_refused : {r : Result (List ℕ)} {n p : ℕ} (out : List ℕ) → r ≡ Refused n p → Delivers r out out (Written.Refused n p)
+pub delivers_refused : {r : Result (List ℕ)} {n p : ℕ} (out : List ℕ) → r ≡ Refused n p → Delivers r out out (Err (refusal n p))
 unfolding ◌>>=◌
 delivers_refused out e = record { answer = rw e; text_left = rw e }
 
 sets-front : (s out : List ℕ) → length s ≤ length out → sets out 0 s ≡ s ++ drop (length s) out
 sets-front s out h = let z : 0 + length s ≡ length s = omega arith in sets-eq s out 0 (omega arith) ∙ ap (λ (n : ℕ). s ++ drop n out) z
 
-pub delivers_done : {r : Result (List ℕ)} {s : List ℕ} {out out' : List ℕ} {n : ℕ} → r ≡ Done s → n ≡ length s → length s ≤ length out → out' ≡ sets out 0 s → Delivers r out out' (Written.Bytes n)
+pub delivers_done : {r : Result (List ℕ)} {s : List ℕ} {out out' : List ℕ} {n : ℕ} → r ≡ Done s → n ≡ length s → length s ≤ length out → out' ≡ sets out 0 s → Delivers r out out' (Ok n)
 unfolding ◌>>=◌
 delivers_done {s = s} {out} e k h q = record { answer = rw (e, k); text_left = rw e (q ∙ sets-front s out h) }
 

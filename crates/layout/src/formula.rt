@@ -18,11 +18,9 @@ pub fn measure(nodes: &[u32], names: &[u8], sizes: &[usize], pieces: &[u8]) -> u
     ensures { result ≡ min max_told (weight (nth sizes.now) (root nodes.now)) }
 {
     let mut lens = [0u32; MAX_NODES];
-    let mut i = 0;
-    while i < nodes.len() {
-        let size = node_size(nodes[i], sizes, &lens, pieces);
+    for (i, word) in nodes.iter().enumerate() {
+        let size = node_size(*word, sizes, &lens, pieces);
         lens[i] = size;
-        i += 1;
     }
     lens[nodes.len() - 1]
 }
@@ -102,6 +100,7 @@ pub fn put_formula(
     stack[0] = (nodes.len() - 1) as u32;
     let mut height = 1;
     let mut at = start;
+    // A piece from the stack at a time: it ends where the stack is empty.
     while 0 < height {
         let turned = step(nodes, names, sizes, pieces, &mut stack, height, out, at);
         height = turned.height;

@@ -8,8 +8,7 @@ ghost use Rattle.signal_names.specs.Promise.{slot, Puts};
 ghost use Rattle.layout.specs.Layout.{piece, piece_of, sized, nth};
 ghost use Rattle.layout.specs.Table.{table, following, of_signal, of_operand, Measurable, Writable};
 
-use basics::told;
-use basics::u8_usize::wide;
+use basics::MAX_TOLD;
 use language::limits::MAX_NAME;
 use node::Node;
 use signal_names::put_bytes;
@@ -53,7 +52,7 @@ fn piece_size(pieces: &[u8], kind: usize, done: usize) -> usize
     requires { (pieces.now ≡ table) × ((kind < kind_count) × (done < 3)) }
     ensures { (result ≡ length (piece (shape_of kind) done)) × (result ≤ 10) }
 {
-    wide(pieces[ROWS * kind + ROW * done])
+    usize::from(pieces[ROWS * kind + ROW * done])
 }
 
 fn put_row(pieces: &[u8], kind: usize, done: usize, out: &mut [u8], at: usize) -> usize
@@ -126,5 +125,5 @@ pub fn node_size(word: u32, sizes: &[usize], lens: &[u32], pieces: &[u8]) -> u32
     let name = name_size(k, sizes, first);
     let left = operand_size(follows(pieces, kind, 0), lens, first);
     let right = operand_size(follows(pieces, kind, 1), lens, second);
-    told(own + name + left + right)
+    (own + name + left + right).min(MAX_TOLD) as u32
 }

@@ -12,12 +12,11 @@ ghost use Rattle.layout.specs.Text.{model_of, head_text, line_of, lines_from, li
 
 use crate::formula::{measure, put_formula};
 use crate::pieces::pieces;
-use basic::Written;
 use basics::MAX_TOLD;
 use language::limits::MAX_NAME;
 use language::models;
-use node::MAX_SIGNALS;
 use node::refusals::{SHORT_RESULT, UNWRITABLE_NAME};
+use node::{MAX_SIGNALS, Refusal};
 use signal_names::{flag_of, put_bytes, spell};
 
 // The bytes of all signals' slots, with room for a name that is too long.
@@ -107,10 +106,8 @@ fn put_lines(
     ensures { Puts (lines_from (slot names.now sizes.now) flag 0 list.now) out.old out.new start result }
 {
     let mut at = start;
-    let mut k = 0;
-    while k < list.len() {
-        at = put_line(list[k], flag, names, sizes, k, out, at);
-        k += 1;
+    for (k, entry) in list.iter().enumerate() {
+        at = put_line(*entry, flag, names, sizes, k, out, at);
     }
     at
 }
@@ -130,10 +127,8 @@ fn lines_size(list: &[u32], flag: u32, names: &[u8], sizes: &[usize]) -> usize
     ensures { (result ≡ lines_size (nth sizes.now) flag 0 list.now) × (result ≤ max_line * max_signals) }
 {
     let mut n: usize = 0;
-    let mut k = 0;
-    while k < list.len() {
-        n += line_size(list[k], flag, sizes[k]);
-        k += 1;
+    for (k, entry) in list.iter().enumerate() {
+        n += line_size(*entry, flag, sizes[k]);
     }
     n
 }
@@ -180,7 +175,7 @@ fn write_text(
     names: &[u8],
     sizes: &[usize],
     out: &mut [u8],
-) -> Written
+) -> Result<u32, Refusal>
     requires { Scene nodes.now names.now sizes.now × (Held names.now sizes.now (length list.now) × (length list.now ≤ max_signals)) }
     ensures { Delivers (handed (length out.old) (text_of (model_of target) (slot names.now sizes.now) list.now (root nodes.now)))
         out.old out.new result }
@@ -188,18 +183,30 @@ fn write_text(
     let table = pieces();
     let size = text_size(nodes, list, names, sizes, &table);
     if out.len() < size {
-        return Written::Refused(SHORT_RESULT, 0);
+        return Err(Refusal {
+            number: SHORT_RESULT,
+            place: 0,
+        });
     }
     if MAX_TOLD < size {
-        return Written::Refused(SHORT_RESULT, 0);
+        return Err(Refusal {
+            number: SHORT_RESULT,
+            place: 0,
+        });
     }
     put_text(target, nodes, list, names, sizes, &table, out);
-    Written::Bytes(size as u32)
+    Ok(size as u32)
 }
 
 // The basic text of an accepted text's node table and signal list, with the target's model: 22, then 18. An inner function: the reader has made the table and the
 // list.
-pub fn write_nodes(text: &[u8], target: u32, nodes: &[u32], list: &[u32], out: &mut [u8]) -> Written
+pub fn write_nodes(
+    text: &[u8],
+    target: u32,
+    nodes: &[u32],
+    list: &[u32],
+    out: &mut [u8],
+) -> Result<u32, Refusal>
     requires { Formed (length list.now) nodes.now × (length list.now ≤ max_signals) }
     ensures { Delivers (outcome (length out.old) text.now (model_of target) list.now nodes.now) out.old out.new result }
 {
@@ -207,7 +214,10 @@ pub fn write_nodes(text: &[u8], target: u32, nodes: &[u32], list: &[u32], out: &
     let mut sizes = [0usize; MAX_SIGNALS];
     let fault = spell(text, list, &mut names, &mut sizes);
     if fault < list.len() {
-        return Written::Refused(UNWRITABLE_NAME, fault as u32);
+        return Err(Refusal {
+            number: UNWRITABLE_NAME,
+            place: fault as u32,
+        });
     }
     write_text(target, nodes, list, &names, &sizes, out)
 }

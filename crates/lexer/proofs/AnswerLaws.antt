@@ -3,6 +3,7 @@ use Prim.Native.Nat.{ℕ, suc, ◌+◌, ◌≤◌, ◌<◌}
 use mathlib.Core.List.{List, [], ◌∷◌, ◌++◌}
 use mathlib.Core.Bool.{Bool, true, false}
 use mathlib.Core.Option.{Option, none, some}
+use Rattle.std.specs.Prelude.{Ok, Err}
 use mathlib.Core.Path.{◌≡◌, refl, sym, ap, ◌∙◌, subst}
 use lib.Dec.{leb}
 use lib.ListN.{length, drop, length-append, drop_of_length-le}
@@ -10,6 +11,7 @@ use native.Mathlib.Numerals.{add-one}
 use native.Mathlib.Omega.{arith}
 use borrow.Author.Tests.{le-leb, lt-leb}
 use Rattle.node.specs.Result.{Result, Done, Refused as RefusedAt}
+use Rattle.node.specs.Returned.{refusal}
 use Rattle.node.proofs.ResultLaws.{guard-pass, guard-stop}
 use Rattle.words.specs.Words.{word_at}
 use Rattle.language.specs.Limits.{max_bytes, max_tokens}
@@ -24,7 +26,6 @@ use Rattle.lexer.specs.Lexing.{lexing}
 use Rattle.lexer.specs.Answer.{Lexes}
 use Rattle.lexer.specs.Scanning.{Scans}
 use Rattle.lexer.specs.declared.piece.Scanned.{Scanned}
-use Rattle.lexer.specs.declared.Lexed.TheVariants.{Tokens, Refused}
 use Rattle.lexer.proofs.StepLaws.{token_of, piece-wrong, step-wrong}
 use Rattle.lexer.proofs.RunLaws.{front-left, right-left, token_at, place-first, Run}
 
@@ -37,7 +38,7 @@ unfolding refuse_at
 place_some number o p r e = rw e
 
 -- refusal 1
-pub answer_long : (text w : List ℕ) → max_bytes < length text → Lexes text w w (Refused 1 max_bytes)
+pub answer_long : (text w : List ℕ) → max_bytes < length text → Lexes text w w (Err (refusal 1 max_bytes))
 unfolding lexing
 answer_long text w h = record { answer = guard-stop 1 max_bytes _ (lt-leb (length text) max_bytes h); kept = refl; size = refl }
 
@@ -47,7 +48,7 @@ module _ (text w v : List ℕ) (at n : ℕ) (e : Bool) (over : ℕ) (c : Run tex
   passed = guard-pass 1 max_bytes _ (le-leb (length text) max_bytes short)
 
   -- refusal 2
-  pub answer-wrong : at < length text → (r : Scanned) → Scans e (drop at text) r → r.size ≡ 0 → Lexes text w v (Refused 2 at)
+  pub answer-wrong : at < length text → (r : Scanned) → Scans e (drop at text) r → r.size ≡ 0 → Lexes text w v (Err (refusal 2 at))
   answer-wrong inside r q z =
       let t = token_of e at (drop at text) in
       let f : no_token (tokens text) ≡ some at =
@@ -72,7 +73,7 @@ module _ (text w v : List ℕ) (at n : ℕ) (e : Bool) (over : ℕ) (c : Run tex
     counted : lexing text ≡ refuse_at 3 (too_many_tokens (tokens text)) (Done (tokens text))
     counted = passed ∙ place_none 2 (no_token (tokens text)) _ no_wrong
 
-    pub answer-many : max_tokens < n → Lexes text w v (Refused 3 over)
+    pub answer-many : max_tokens < n → Lexes text w v (Err (refusal 3 over))
     answer-many h =
         let l : suc max_tokens < length (tokens text) = subst (λ m. suc max_tokens < m) (sym all-length) (omega arith) in
         let f : too_many_tokens (tokens text) ≡ some over = many max_tokens l (subst (λ m. max_tokens < m) c.count h) ∙ ap some (sym (c.limit h)) in
@@ -82,7 +83,7 @@ module _ (text w v : List ℕ) (at n : ℕ) (e : Bool) (over : ℕ) (c : Run tex
             → ◌≡◌ {A = Option ℕ} (elim (leb (length (tokens text)) (suc m)) [ true ↦ none | false ↦ place_of_first (drop m (tokens text)) ]) (some (token_at m c.done).at)
         many m l k = leave (leb (length (tokens text)) (suc m)) none _ (lt-leb (length (tokens text)) (suc m) l) ∙ ap (λ ts. place_of_first (drop m ts)) all ∙ place-first m c.done (last ∷ []) k
 
-    pub answer-tokens : n ≤ max_tokens → Lexes text w v (Tokens n)
+    pub answer-tokens : n ≤ max_tokens → Lexes text w v (Ok n)
     answer-tokens h =
         let l : length (tokens text) ≤ suc max_tokens = subst (λ m. m ≤ suc max_tokens) (sym all-length) (omega arith) in
         record {

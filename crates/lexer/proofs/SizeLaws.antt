@@ -28,6 +28,29 @@ line-run (b ∷ s) = turned (eqb b 10) (run in_line s) ∙ ap (λ (n : ℕ). eli
     turned true n = refl
     turned false n = refl
 
+-- a string's bytes are a run of other bytes than quotes, then a quote
+abbrev pub in_string : ℕ → Bool
+in_string b = not (eqb b 34)
+
+pub quoted_run : (n : ℕ) (s : List ℕ) → run in_string s < length s → run in_string s + (n + 1) ≡ quoted_size n s
+quoted_run n [] h = absurd (omega arith)
+quoted_run n (b ∷ s) h = go (eqb b 34) h (quoted_run (suc n) s)
+  where
+    go : (q : Bool) → elim (not q) [ true ↦ suc (run in_string s) | false ↦ 0 ] < suc (length s)
+        → (run in_string s < length s → run in_string s + (suc n + 1) ≡ quoted_size (suc n) s)
+        → ◌≡◌ {A = ℕ} (elim (not q) [ true ↦ suc (run in_string s) | false ↦ 0 ] + (n + 1)) (elim q [ true ↦ suc n | false ↦ quoted_size (suc n) s ])
+    go true l more = omega arith
+    go false l more = let rest = more (omega arith) in omega arith
+
+pub quoted_open : (n : ℕ) (s : List ℕ) → length s ≤ run in_string s → 0 ≡ quoted_size n s
+quoted_open n [] h = refl
+quoted_open n (b ∷ s) h = go (eqb b 34) h (quoted_open (suc n) s)
+  where
+    go : (q : Bool) → suc (length s) ≤ elim (not q) [ true ↦ suc (run in_string s) | false ↦ 0 ]
+        → (length s ≤ run in_string s → 0 ≡ quoted_size (suc n) s) → ◌≡◌ {A = ℕ} 0 (elim q [ true ↦ suc n | false ↦ quoted_size (suc n) s ])
+    go true l more = absurd (omega arith)
+    go false l more = more (omega arith)
+
 -- at a byte of the text
 module _ (s : List ℕ) (i : ℕ) (h : i < length s) where
   pub run_more : (p : ℕ → Bool) → p (get_or s i 0) ≡ true → run p (drop i s) ≡ suc (run p (drop (i + 1) s))
@@ -35,12 +58,6 @@ module _ (s : List ℕ) (i : ℕ) (h : i < length s) where
 
   pub run-stop : (p : ℕ → Bool) → p (get_or s i 0) ≡ false → run p (drop i s) ≡ 0
   run-stop p e = rw (drop-cons s i 0 h, e, run)
-
-  pub quoted-more : (n : ℕ) → eqb (get_or s i 0) 34 ≡ false → quoted_size n (drop i s) ≡ quoted_size (suc n) (drop (i + 1) s)
-  quoted-more n e = rw (add-one i, drop-cons s i 0 h, e, quoted_size)
-
-  pub quoted-stop : (n : ℕ) → eqb (get_or s i 0) 34 ≡ true → quoted_size n (drop i s) ≡ suc n
-  quoted-stop n e = rw (drop-cons s i 0 h, e, quoted_size)
 
   pub comment_more : (k : ℕ) (n : Nesting) → eqb (nested n (get_or s i 0)).depth 0 ≡ false → comment_size k n (drop i s) ≡ comment_size (suc k) (nested n (get_or s i 0)) (drop (i + 1) s)
   comment_more k n e = rw (add-one i, drop-cons s i 0 h, e, comment_size)
@@ -84,103 +101,58 @@ module _ (depth last b : ℕ) where
       let f = not-both last b 47 42 k in
       record { depths = rw (e, f); lasts = rw (e, f) }
 
--- at the text's end
-module _ (s : List ℕ) (i : ℕ) (h : length s ≤ i) where
-  pub run_end : (p : ℕ → Bool) → run p (drop i s) ≡ 0
-  run_end p = rw (drop_of_length-le s h)
+-- the loops: what is known before byte i of the rest of the text
+abbrev pub Running : (ℕ → Bool) → List ℕ → ℕ → Type 0
+Running p s i = run p s ≡ i + run p (drop i s)
 
-  pub quoted-end : (n : ℕ) → quoted_size n (drop i s) ≡ 0
-  quoted-end n = rw (drop_of_length-le s h)
+module _ (p : ℕ → Bool) (s : List ℕ) (i : ℕ) (q : Running p s i) where
+  pub running_on : i < length s → p (get_or s i 0) ≡ true → Running p s (i + 1)
+  running_on h e = let more : run p (drop i s) ≡ suc (run p (drop (i + 1) s)) = run_more s i h p e in omega arith
 
-  pub comment_end : (k : ℕ) (n : Nesting) → comment_size k n (drop i s) ≡ 0
-  comment_end k n = rw (drop_of_length-le s h)
+  pub running_stop : i < length s → p (get_or s i 0) ≡ false → i ≡ run p s
+  running_stop h e = let stop : run p (drop i s) ≡ 0 = run-stop s i h p e in omega arith
 
--- the loops: what is known before byte i of the text, from `from` on
-pub record Running (p : ℕ → Bool) (s : List ℕ) (from i : ℕ) : Type 0 where
-  pub onward : from ≤ i
-  pub inside : i ≤ length s
-  pub same : run p (drop from s) ≡ i - from + run p (drop i s)
+  pub running_end : length s ≤ i → i ≡ run p s
+  running_end h = let stop : run p (drop i s) ≡ 0 = rw (drop_of_length-le s h) in omega arith
 
-pub running_start : (p : ℕ → Bool) (s : List ℕ) (from : ℕ) → from ≤ length s → Running p s from from
-running_start p s from h = record { onward = omega arith; inside = h; same = omega arith }
+pub record Commenting (s : List ℕ) (i : ℕ) (n : Nest) : Type 0 where
+  pub some : 1 ≤ n.depth
+  pub few : n.depth ≤ i + 1
+  pub same : comment_size 2 opened s ≡ comment_size (i + 2) (record { depth = n.depth; last = n.last }) (drop i s)
 
-module _ (p : ℕ → Bool) (s : List ℕ) (from i : ℕ) (q : Running p s from i) where
-  pub running_on : i < length s → p (get_or s i 0) ≡ true → Running p s from (i + 1)
-  running_on h e =
-      let onward = q.onward in
-      let more : run p (drop i s) ≡ suc (run p (drop (i + 1) s)) = run_more s i h p e in
-      record { onward = omega arith; inside = omega arith; same = omega (arith, q.same) }
+pub commenting_start : (s : List ℕ) → Commenting s 0 (record { depth = 1; last = 0 })
+commenting_start s = record { some = omega arith; few = omega arith; same = refl }
 
-  pub running_stop : i < length s → p (get_or s i 0) ≡ false → i - from ≡ run p (drop from s)
-  running_stop h e = let stop : run p (drop i s) ≡ 0 = run-stop s i h p e in omega (arith, q.same)
-
-  pub running_end : length s ≤ i → i - from ≡ run p (drop from s)
-  running_end h = let stop : run p (drop i s) ≡ 0 = run_end s i h p in omega (arith, q.same)
-
-pub record Quoting (s : List ℕ) (from i : ℕ) : Type 0 where
-  pub onward : from ≤ i
-  pub inside : i ≤ length s
-  pub same : quoted_size 1 (drop from s) ≡ quoted_size (i - from + 1) (drop i s)
-
-pub quoting_start : (s : List ℕ) (from : ℕ) → from ≤ length s → Quoting s from from
-quoting_start s from h =
-    let e : from - from + 1 ≡ 1 = omega arith in
-    record { onward = omega arith; inside = h; same = ap (λ n. quoted_size n (drop from s)) (sym e) }
-
-pub quoting_on : (s : List ℕ) (from i : ℕ) → Quoting s from i → i < length s → eqb (get_or s i 0) 34 ≡ false → Quoting s from (i + 1)
-quoting_on s from i q h e =
-    let onward = q.onward in
-    let f : suc (i - from + 1) ≡ i + 1 - from + 1 = omega arith in
-    record {
-      onward = omega arith;
-      inside = omega arith;
-      same = q.same ∙ quoted-more s i h (i - from + 1) e ∙ ap (λ n. quoted_size n (drop (i + 1) s)) f;
-    }
-
-pub record Commenting (s : List ℕ) (from i depth last : ℕ) : Type 0 where
-  pub onward : from ≤ i
-  pub inside : i ≤ length s
-  pub some : 1 ≤ depth
-  pub few : depth ≤ i - from + 1
-  pub same : comment_size 2 opened (drop from s) ≡ comment_size (i - from + 2) (record { depth = depth; last = last }) (drop i s)
-
-pub commenting_start : (s : List ℕ) (from : ℕ) → from ≤ length s → Commenting s from from 1 0
-commenting_start s from h =
-    let e : from - from + 2 ≡ 2 = omega arith in
-    record { onward = omega arith; inside = h; some = omega arith; few = omega arith; same = ap (λ n. comment_size n opened (drop from s)) (sym e) }
+pub commenting_end : (s : List ℕ) (i : ℕ) (n : Nest) → Commenting s i n → length s ≤ i → 0 ≡ comment_size 2 opened s
+commenting_end s i n q h = sym (q.same ∙ rw (drop_of_length-le s h))
 
 nested-depth : (n : Nesting) (b : ℕ) → (nested n b).depth ≤ suc n.depth
 nested-depth n b =
     split (λ (m : Nesting). m.depth ≤ suc n.depth) (eqb n.last 42 && eqb b 47) (λ _. omega arith)
     (λ _. split (λ (m : Nesting). m.depth ≤ suc n.depth) (eqb n.last 47 && eqb b 42) (λ _. omega arith) (λ _. omega arith))
 
-module _ (s : List ℕ) (from i depth last : ℕ) (q : Commenting s from i depth last) (h : i < length s) (r : Nest) (n : Nests depth last (get_or s i 0) r) where
+module _ (s : List ℕ) (i : ℕ) (m : Nest) (q : Commenting s i m) (h : i < length s) (r : Nest) (n : Nests m.depth m.last (get_or s i 0) r) where
   abbrev before : Nesting
-  before = record { depth = depth; last = last }
+  before = record { depth = m.depth; last = m.last }
 
   abbrev after : Nesting
   after = nested before (get_or s i 0)
 
-  pub commenting_on : (r.depth ≡ 0 → ⊥) → Commenting s from (i + 1) r.depth r.last
+  pub commenting_on : (r.depth ≡ 0 → ⊥) → Commenting s (i + 1) r
   commenting_on e =
-      let onward = q.onward in
-      let deeper : after.depth ≤ suc depth = nested-depth before (get_or s i 0) in
+      let deeper : after.depth ≤ suc m.depth = nested-depth before (get_or s i 0) in
       let few = q.few in
       let d = n.depths in
-      let f : suc (i - from + 2) ≡ i + 1 - from + 2 = omega arith in
+      let f : suc (i + 2) ≡ i + 1 + 2 = omega arith in
       let nesting : ℕ → ℕ → Nesting = λ k l. record { depth = k; last = l } in
       let same : after ≡ record { depth = r.depth; last = r.last } = ap₂ nesting (sym n.depths) (sym n.lasts) in
       record {
-        onward = omega arith;
-        inside = omega arith;
         some = omega arith;
         few = omega arith;
-        same = q.same ∙ comment_more s i h (i - from + 2) before (ne_eqb after.depth 0 (λ z. e (d ∙ z)))
-            ∙ ap₂ (λ k m. comment_size k m (drop (i + 1) s)) f same;
+        same = q.same ∙ comment_more s i h (i + 2) before (ne_eqb after.depth 0 (λ z. e (d ∙ z))) ∙ ap₂ (λ k m. comment_size k m (drop (i + 1) s)) f same;
       }
 
-  pub commenting_stop : r.depth ≡ 0 → i + 1 - from + 2 ≡ comment_size 2 opened (drop from s)
+  pub commenting_stop : r.depth ≡ 0 → i + 3 ≡ comment_size 2 opened s
   commenting_stop e =
-      let onward = q.onward in
-      let f : i + 1 - from + 2 ≡ suc (i - from + 2) = omega arith in
-      f ∙ sym (q.same ∙ comment_stop s i h (i - from + 2) before (eq-eqb after.depth 0 (sym n.depths ∙ e)))
+      let f : i + 3 ≡ suc (i + 2) = omega arith in
+      f ∙ sym (q.same ∙ comment_stop s i h (i + 2) before (eq-eqb after.depth 0 (sym n.depths ∙ e)))

@@ -20,6 +20,10 @@ pub record Nests (depth last b : ℕ) (r : Nest) : Type 0 where
   pub depths : r.depth ≡ (nested (record { depth = depth; last = last }) b).depth
   pub lasts : r.last ≡ (nested (record { depth = depth; last = last }) b).last
 
+-- the answers of a call on a byte are those of the test
+abbrev pub Tests : (ℕ → Bool) → (ℕ → Bool → Type 0) → Type 0
+Tests p Answers = (b : ℕ) (r : Bool) → b < 256 → Answers b r → r ≡ p b
+
 -- the number of the token that a piece at the front of the bytes makes, wherever it stands
 unfoldable pub piece_number : Piece → List ℕ → ℕ
 piece_number p s = number (record { class = p.class; at = 0; text = take p.size s })

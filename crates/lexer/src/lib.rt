@@ -9,37 +9,25 @@ mod search;
 mod sizes;
 mod tables;
 
-ghost use Rattle.std.specs.Prelude.{◌≡◌, ◌≤◌, min, length};
-ghost use Rattle.lexer.specs.Stored.{longest, word_of};
+ghost use Rattle.std.specs.Prelude.{◌≡◌, ◌≤◌, length};
+ghost use Rattle.lexer.specs.Stored.{word_of};
 ghost use Rattle.lexer.specs.Answer.{token_bytes, Lexes};
 ghost use Rattle.lexer.specs.Scanning.{enumerating_by, later_place, Storable, storing};
 
 use fields::{LENGTHS, LONGEST, OFFSETS};
 use language::limits;
-use node::refusals;
+use node::{Refusal, refusals};
 use numbers::{CLOSE_BRACE, ENUM, NO_NUMBER, SEMICOLON};
-
-// The number of tokens, which are stored; or the refusal's number and place.
-#[derive(Clone, Copy)]
-pub enum Lexed {
-    Tokens(u32),
-    Refused(u32, u32),
-}
 
 // Is the text in an enumeration after a token of this number?
 fn enumerating_after(enumerating: bool, number: u32) -> bool
     ensures { result ≡ enumerating_by enumerating number }
 {
-    if number == ENUM {
-        return true;
+    match number {
+        ENUM => true,
+        SEMICOLON | CLOSE_BRACE => false,
+        _ => enumerating,
     }
-    if number == SEMICOLON {
-        return false;
-    }
-    if number == CLOSE_BRACE {
-        return false;
-    }
-    enumerating
 }
 
 // The place of the first token that is too many, once token n at `at` is met.
@@ -52,34 +40,27 @@ fn later_place(n: usize, over: usize, at: usize) -> usize
     over
 }
 
-// A length as it is stored.
-fn capped(size: usize) -> u32
-    ensures { result ≡ min longest size }
-{
-    if size < LONGEST {
-        return size as u32;
-    }
-    LONGEST as u32
-}
-
 // Stores token n, if it is one of those that a text may have. Its caller has met the token, so that its number and offset fit their fields.
 fn store(work: &mut [u8], n: usize, number: u32, at: usize, size: usize)
     requires { Storable work.old number at }
     ensures { work.new ≡ storing work.old n (word_of number at size) }
 {
     if n < limits::MAX_TOKENS {
-        let word = (number * OFFSETS + at as u32) * LENGTHS + capped(size);
+        let word = (number * OFFSETS + at as u32) * LENGTHS + LONGEST.min(size) as u32;
         words::put(work, n, word);
     }
 }
 
-// The tokens of a text.
-pub fn lex(text: &[u8], work: &mut [u8]) -> Lexed
+// The tokens of a text: how many are stored.
+pub fn lex(text: &[u8], work: &mut [u8]) -> Result<u32, Refusal>
     requires { token_bytes ≤ length work.old }
     ensures { Lexes text.now work.old work.new result }
 {
     if limits::MAX_BYTES < text.len() {
-        return Lexed::Refused(refusals::TOO_LONG, limits::MAX_BYTES as u32);
+        return Err(Refusal {
+            number: refusals::TOO_LONG,
+            place: limits::MAX_BYTES as u32,
+        });
     }
     let bytes = tables::byte_table();
     let rows = tables::row_table();
@@ -87,12 +68,16 @@ pub fn lex(text: &[u8], work: &mut [u8]) -> Lexed
     let mut n: usize = 0;
     let mut enumerating = false;
     let mut over: usize = 0;
+    // A token's bytes at a time.
     while at < text.len() {
         let piece = piece::scan(text, at, enumerating, &bytes, &rows);
         let number = piece.number;
         let size = piece.size;
         if size == 0 {
-            return Lexed::Refused(refusals::NO_TOKEN, at as u32);
+            return Err(Refusal {
+                number: refusals::NO_TOKEN,
+                place: at as u32,
+            });
         }
         if number == NO_NUMBER {
             at += size;
@@ -105,7 +90,10 @@ pub fn lex(text: &[u8], work: &mut [u8]) -> Lexed
         at += size;
     }
     if limits::MAX_TOKENS < n {
-        return Lexed::Refused(refusals::TOO_MANY_TOKENS, over as u32);
+        return Err(Refusal {
+            number: refusals::TOO_MANY_TOKENS,
+            place: over as u32,
+        });
     }
-    Lexed::Tokens(n as u32)
+    Ok(n as u32)
 }

@@ -1,5 +1,6 @@
 // The numbers of tokens, by which the code knows them (specs/Numbers): of classes, then of signs and words in the order of the format's tables. Signs and words that
 // no code asks for by name have none here.
+// Numbers and no enum: a token's word in the lent buffer holds them.
 ghost use Rattle.std.specs.Prelude.{◌≡◌};
 ghost use Rattle.lexer.specs.Numbers.{numbers as numbers'};
 

@@ -10,10 +10,10 @@ ghost use Rattle.lexer.specs.Scanning.{Scannable, Scans, ScansAs, closed_as};
 use crate::numbers::{FIRST_FIXED, MARKS, NAME, NO_NUMBER, NUMERAL, QUOTED};
 use crate::tables::{COUNT, ROW, ROW_BYTES};
 use crate::{search, sizes};
-use basics::u8_usize::wide;
 use language::limits;
 
 // The classes of bytes (specs/ByteClasses).
+// Numbers and no enum: the bytes of the lexer's table hold them, and classes in a row are tested by their ends.
 const BLANK: u8 = 1;
 
 const QUOTE: u8 = 2;
@@ -37,6 +37,7 @@ pub fn classes() -> [u8; 8]
     [BLANK, QUOTE, SLASH, STAR, BIT, DIGIT, LETTER, PRIME]
 }
 
+// Number and size stay numbers, without an enum: `ScansAs` and `closed_as` (specs/Scanning) name them so, as the format's pieces do.
 // What stands at a place: a token's number and size. A blank or comment has NO_NUMBER, and what is no token has size 0 besides.
 #[derive(Clone, Copy)]
 pub struct Scanned {
@@ -90,10 +91,9 @@ pub fn sign(text: &[u8], at: usize, bytes: &[u8; 512], rows: &[u8; ROW_BYTES]) -
     let first = search::first_row(bytes, text[at]);
     let k = search::find(text, at, rows, first, 0);
     if k < COUNT {
-        let row = ROW * k;
         return Scanned {
             number: FIRST_FIXED + k as u32,
-            size: wide(rows[row]),
+            size: usize::from(rows[ROW * k]),
         };
     }
     Scanned {

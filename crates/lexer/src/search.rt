@@ -4,23 +4,18 @@ ghost use Rattle.lexer.specs.Spelling.{entry, entries, search, fitting};
 ghost use Rattle.lexer.specs.Scanning.{Findable, Comparable};
 
 use crate::tables::{COUNT, ROW, ROW_BYTES};
-use basics::u8_usize::wide;
 
 pub fn first_row(bytes: &[u8; 512], b: u8) -> usize
     ensures { result ≡ get_or bytes.now (2 * b + 1) 0 }
 {
-    let i = 2 * (b as usize) + 1;
-    wide(bytes[i])
+    usize::from(bytes[2 * usize::from(b) + 1])
 }
 
 // Is the length the size asked for (0: any)?
 pub fn sized(n: usize, size: usize) -> bool
     ensures { result ≡ (eqb size 0 || eqb n size) }
 {
-    if size == 0 {
-        return true;
-    }
-    n == size
+    size == 0 || n == size
 }
 
 // Do the bytes from `at` on start with the string of row k, which has the size given (0: any)?
@@ -29,35 +24,22 @@ pub fn fits(text: &[u8], at: usize, rows: &[u8; ROW_BYTES], k: usize, size: usiz
     ensures { result ≡ fitting size (drop at text.now) (entry k) }
 {
     let row = ROW * k;
-    let n = wide(rows[row]);
-    if !sized(n, size) {
-        return false;
-    }
-    if text.len() - at < n {
-        return false;
-    }
-    let mut j = 0;
-    while j < n {
-        if text[at + j] != rows[row + 2 + j] {
-            return false;
-        }
-        j += 1;
-    }
-    true
+    let n = usize::from(rows[row]);
+    sized(n, size) && text[at..].starts_with(&rows[row + 2..row + 2 + n])
 }
 
-// The first row whose string fits; COUNT if none does. Only rows that begin with the text's byte are looked at.
+// The first row whose string fits; COUNT if none does, as `search` (specs/Spelling) is the list's length then: no Option. Only rows that begin with the text's byte are looked at.
 pub fn find(text: &[u8], at: usize, rows: &[u8; ROW_BYTES], first: usize, size: usize) -> usize
     requires { Findable text.now at rows.now first }
     ensures { result ≡ search (fitting size (drop at text.now)) entries }
 {
     let mut k = first;
+    // From row to row of those that begin alike.
     while k < COUNT {
         if fits(text, at, rows, k, size) {
             return k;
         }
-        let next = ROW * k + 1;
-        k = wide(rows[next]);
+        k = usize::from(rows[ROW * k + 1]);
     }
     COUNT
 }

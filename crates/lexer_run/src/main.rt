@@ -1,7 +1,6 @@
 // Runs the lexer on texts at its limits and one beyond, on each row of refusals 1 to 3 and their order, and on the ways through its definition.
 #![tactic(auto)]
 
-use lexer::Lexed;
 use lexer::fields::{LENGTHS, OFFSETS};
 use std::io::{self, BufWriter, Write};
 
@@ -28,16 +27,16 @@ fn run(to: &mut impl Write, name: &[u8], text: &[u8]) -> io::Result<()> {
     let mut work = input::large_buffer();
     let lexed = lexer::lex(text, &mut work);
     match lexed {
-        Lexed::Tokens(n) => {
+        Ok(n) => {
             number(to, b"tokens ", n)?;
             token(to, words::get(&work, 0))?;
             token(to, words::get(&work, 1))?;
             token(to, words::get(&work, 2))?;
             line(to, b"")
         }
-        Lexed::Refused(refusal, place) => {
-            number(to, b"refused ", refusal)?;
-            number(to, b" ", place)?;
+        Err(refusal) => {
+            number(to, b"refused ", refusal.number)?;
+            number(to, b" ", refusal.place)?;
             line(to, b"")
         }
     }

@@ -1,6 +1,7 @@
 -- Words counted one by one, and the words of a text's lines: as many as the section has lines.
 use Rattle.std.specs.Prelude.{ℕ, suc, ◌+◌, ◌<◌, ◌≤◌, Bool, true, false, ◌≡◌, refl, List, [], ◌∷◌, ◌++◌, map, eqb, length, get_or, take}
 use Rattle.std.proofs.Common.{sym, ap, ap₂, ◌∙◌, take-suc, eq-eqb, ne_eqb, arith}
+use Rattle.std.proofs.lemmas.List.{get_or-take}
 use Rattle.node.specs.Fields.{above}
 use Rattle.node.proofs.FieldLaws.{above_join}
 use Rattle.node.specs.Limits.{max_nodes, field_bits}
@@ -25,12 +26,15 @@ is_one part w e = sym (ap digit (eq-eqb part (above field_bits w) (sym e)))
 pub is_none : (part w : ℕ) → (above field_bits w ≡ part → ⊥) → 0 ≡ one part w
 is_none part w d = sym (ap digit (ne_eqb part (above field_bits w) (λ e. d (sym e))))
 
-pub one-most : (part w : ℕ) → one part w ≤ 1
+one-most : (part w : ℕ) → one part w ≤ 1
 one-most part w = go (eqb part (above field_bits w))
   where
     go : (b : Bool) → digit b ≤ 1
     go true = omega arith
     go false = omega arith
+
+pub one_few : (part w : ℕ) {m : ℕ} → m ≡ one part w → m ≤ 1
+one_few part w e = omega (arith, e, one-most part w)
 
 -- no word, a word more
 pub counting_none : (part : ℕ) (words : List ℕ) → PartCount part words 0 0
@@ -42,9 +46,9 @@ unfolding counted
 counted-last part [] w = omega arith
 counted-last part (v ∷ ws) w = omega (arith, counted-last part ws w)
 
-pub counting_more : {part : ℕ} {words : List ℕ} {i n m : ℕ} → PartCount part words i n → m ≡ one part (get_or words i 0) → PartCount part words (suc i) (n + m)
-counting_more {part} {words} {i} e q = record {
-  is = λ h. ap₂ ◌+◌ (e.is (omega arith)) q ∙ sym (counted-last part (take i words) (get_or words i 0)) ∙ ap (counted part) (sym (take-suc words i 0 (omega arith)));
+pub counting_more : {part : ℕ} {words : List ℕ} {k i n m : ℕ} → i < k → PartCount part words i n → m ≡ one part (get_or (take k words) i 0) → PartCount part words (suc i) (n + m)
+counting_more {part} {words} {k} {i} l e q = record {
+  is = λ h. ap₂ ◌+◌ (e.is (omega arith)) (q ∙ ap (one part) (get_or-take k words i 0 l)) ∙ sym (counted-last part (take i words) (get_or words i 0)) ∙ ap (counted part) (sym (take-suc words i 0 (omega arith)));
 }
 
 -- the words of lines

@@ -32,10 +32,7 @@ pub fn no_lines() -> LineCounts
 fn is_in(part: u32, word: u32) -> u32
     ensures { result ≡ one part word }
 {
-    if word / FIELD_LIMIT == part {
-        return 1;
-    }
-    0
+    u32::from(word / FIELD_LIMIT == part)
 }
 
 // How many of the first words are a line's of the part.
@@ -44,10 +41,8 @@ fn lines_in(part: u32, lines: &[u32; MAX_NODES], count: usize) -> u32
     ensures { PartCount part lines.now count result }
 {
     let mut n = 0;
-    let mut i = 0;
-    while i < count {
-        n = n + is_in(part, lines[i]);
-        i += 1;
+    for word in &lines[..count] {
+        n += is_in(part, *word);
     }
     n
 }

@@ -1,6 +1,6 @@
 -- The steps of Walking one at a time, and of the search for a break.
 use Prim.Native.Nat.{ℕ, zero, suc, ◌+◌, ◌*◌, ◌-◌, ◌/◌, ◌%◌, ◌^◌, ◌≤◌, ◌<◌}
-use Rattle.std.specs.Prelude.{◌≡◌, Bool, true, false, not, ◌&&◌, ◌||◌, List, eqb, length}
+use Rattle.std.specs.Prelude.{◌≡◌, Bool, true, false, cond, not, ◌&&◌, ◌||◌, List, eqb, length}
 use Rattle.std.proofs.Math.Path.{refl, ap}
 use Rattle.std.proofs.Common.{sym, ◌∙◌, mul-le-mul}
 use Rattle.std.proofs.lemmas.Bool.{false≢true}
@@ -24,6 +24,11 @@ bit_past bs i h = ap (λ (x : ℕ). eqb (x / 2 ^ (7 - i % 8) % 2) 1) (get_or-eq_
 pub operand-past : (ws : List ℕ) (i : ℕ) (second : Bool) → length ws ≤ i → operand_of ws i second ≡ 0
 operand-past ws i true h = ap second_of (get_or-eq_default ws 0 h)
 operand-past ws i false h = ap first_of (get_or-eq_default ws 0 h)
+
+-- a choice as the definitions write it
+pub chosen : {A : Type 0} (b : Bool) (x y : A) → cond b x y ≡ (if b then x otherwise y)
+chosen true x y = refl
+chosen false x y = refl
 
 -- a row's bit has a small number
 pub bit-small : (width i : ℕ) → width ≤ row_bytes → i ≤ max_told → width * i ≤ row_bytes * max_told

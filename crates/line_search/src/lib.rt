@@ -3,12 +3,12 @@
 #![tactic(auto)]
 
 ghost use Rattle.std.specs.Prelude.{◌≡◌, ◌≤◌, ◌<◌, not, ◌||◌};
-ghost use Rattle.language.specs.Bytes.{if◌then◌otherwise◌};
 ghost use Rattle.faults.specs.Naming.{broken_from};
 ghost use Rattle.recordings.specs.Limits.{max_positions};
 ghost use Rattle.rows.specs.Memory.{row_bytes};
 ghost use Rattle.line_search.specs.Walking.{operand_of, walked, value_of, seen, or_end};
 
+use basics::either;
 use bits::get_bit;
 use node::Node;
 
@@ -33,11 +33,9 @@ pub fn walk(nodes: &[u32], from: u32, path: u32, steps: u32) -> u32
 {
     let mut i = from;
     let mut rest = path;
-    let mut k = steps;
-    while 0 < k {
+    for _left in (0..steps).rev() {
         i = operand(nodes, i, rest % 2 == 1);
-        rest = rest / 2;
-        k -= 1;
+        rest /= 2;
     }
     i
 }
@@ -54,12 +52,6 @@ pub fn value(rows: &[u8], width: usize, i: u32, p: usize) -> bool
     get_bit(rows, at)
 }
 
-pub fn either(test: bool, a: u32, b: u32) -> u32
-    ensures { result ≡ (if test then a otherwise b) }
-{
-    if test { a } else { b }
-}
-
 // The first of a section's lines that is false at p, or 0: the section's node is its lines folded with `&&`, the last line on the outside.
 pub fn first_false(
     nodes: &[u32],
@@ -72,17 +64,15 @@ pub fn first_false(
     requires { (width ≤ row_bytes) × (p < max_positions) }
     ensures { result ≡ seen nodes.now (λ i. value_of rows.now width i p) section count 0 }
 {
+    if count == 0 {
+        return 0;
+    }
     let mut found = 0;
     let mut i = section;
-    let mut k = count;
-    while 1 < k {
+    for k in (1..count).rev() {
         let last = operand(nodes, i, true);
-        found = either(value(rows, width, last, p), found, k);
+        found = either(value(rows, width, last, p), found, k + 1);
         i = operand(nodes, i, false);
-        k -= 1;
-    }
-    if k == 0 {
-        return found;
     }
     either(value(rows, width, i, p), found, 1)
 }
@@ -92,10 +82,7 @@ pub fn required(rows: &[u8], width: usize, strict: bool, require: u32, p: usize)
     requires { (width ≤ row_bytes) × (p < max_positions) }
     ensures { result ≡ (not strict || value_of rows.now width require p) }
 {
-    if !strict {
-        return true;
-    }
-    value(rows, width, require, p)
+    !strict || value(rows, width, require, p)
 }
 
 // The smallest position where ASSERT is broken, strict: with REQUIRE true up to it; n if there is none.
@@ -103,15 +90,13 @@ pub fn broken(rows: &[u8], width: usize, strict: bool, require: u32, assert: u32
     requires { (width ≤ row_bytes) × (n ≤ max_positions) }
     ensures { result ≡ or_end n (broken_from strict (value_of rows.now width require) (value_of rows.now width assert) 0 n) }
 {
-    let mut p = 0;
-    while p < n {
+    for p in 0..n {
         if !required(rows, width, strict, require, p) {
             return n;
         }
         if !value(rows, width, assert, p) {
             return p;
         }
-        p += 1;
     }
     n
 }

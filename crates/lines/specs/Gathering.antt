@@ -1,8 +1,9 @@
 -- What the walk over a text's entries asks for, what it keeps from line to line, and what it answers.
-use Rattle.std.specs.Prelude.{ℕ, suc, ◌+◌, ◌≤◌, ◌<◌, List, [], ◌∷◌, ◌++◌, map, ◌≡◌, length, get_or}
+use Rattle.std.specs.Prelude.{ℕ, suc, ◌+◌, ◌≤◌, ◌<◌, List, [], ◌∷◌, ◌++◌, map, ◌≡◌, length, get_or, Ok, Err}
 use Rattle.node.specs.Limits.{max_nodes}
 use Rattle.node.specs.Ltl.{Formula}
 use Rattle.node.specs.Result.{Result, Done, ◌>>=◌}
+use Rattle.node.specs.Returned.{Returned}
 use Rattle.language.specs.Limits.{max_tokens, work_bytes}
 use Rattle.language.specs.Tokens.{tokens}
 use Rattle.language.specs.Tree.{Expr, Part, part_code, Spec}
@@ -26,8 +27,6 @@ use Rattle.lines.specs.Items.{Item, items, entry_of, Headed, worked}
 use Rattle.lines.specs.PassedLaws.{PassesOther}
 use Rattle.lines.specs.KnownLines.{EachLine, LineKnown}
 use Rattle.lines.specs.declared.Place.{Place}
-use Rattle.lines.specs.declared.Gathering.{Gathering}
-use Rattle.lines.specs.declared.Gathering.TheVariants.{Lines}
 
 -- what the names stand for in MAIN
 abbrev pub line_context : Spec → Declarations → Context
@@ -100,18 +99,18 @@ pub record Formulas (P : List (Part × Formula) → Type 0) (v : Result (List (P
   pub told : P all
 
 -- what an answer says of the formulas of lines
-abbrev pub Says : (ℕ → ℕ → List (Part × Formula) → Type 0) → Gathering → Result (List (Part × Formula)) → Type 0
-Says P (Lines count at) v = Formulas (P count at) v
-Says P (Gathering.Refused n p) v = v ≡ Result.Refused n p
+abbrev pub Says : (ℕ → ℕ → List (Part × Formula) → Type 0) → Returned Ends → Result (List (Part × Formula)) → Type 0
+Says P (Ok e) v = Formulas (P e.count e.at) v
+Says P (Err r) v = v ≡ Result.Refused r.number r.place
 
-pub record Answered (P : ℕ → ℕ → List (Part × Formula) → Type 0) (r : Gathering) (v : Result (List (Part × Formula))) : Type 0 where
+pub record Answered (P : ℕ → ℕ → List (Part × Formula) → Type 0) (r : Returned Ends) (v : Result (List (Part × Formula))) : Type 0 where
   pub says : Says P r v
 
 abbrev pub ends_at : ℕ → ℕ → Ends
 ends_at at count = record { at = at; count = count }
 
 -- of whatever line it is, its formula is written behind the others
-pub record WritesLine (s : Source) (b b' : Buffers) (here : Place) (e : Ends) (r : Gathering) : Type 0 where
+pub record WritesLine (s : Source) (b b' : Buffers) (here : Place) (e : Ends) (r : Returned Ends) : Type 0 where
   pub lengths : Lengths b b'
   pub says : {start : ℕ} {x : Spec} {d : Declarations} {ls : List (Part × Formula)} {p : Part} {f : Expr} (a : AtLine s b here e start x d ls p f)
       → Answered (λ n m all. Reached (realm_of a.tree) b' (ends_at m n) here.entries start all) r (expansion (line_context x d) f >>= λ g. Done (ls ++ ((p, g) ∷ [])))
@@ -130,7 +129,7 @@ pub record SomeTree (s : Source) (b : Buffers) (entries start : ℕ) : Type 0 wh
   pub begins : Begins s b entries start x d
 
 -- of whatever tree the entries are, the formulas of all its lines are written
-pub record WritesLines (s : Source) (b b' : Buffers) (entries start : ℕ) (r : Gathering) : Type 0 where
+pub record WritesLines (s : Source) (b b' : Buffers) (entries start : ℕ) (r : Returned Ends) : Type 0 where
   pub says : {x : Spec} {d : Declarations} → Begins s b entries start x d
       → Answered (λ n m all. GatheredFrom start all b'.words n b'.table m) r (worked (line_context x d) (items x))
 

@@ -1,26 +1,24 @@
 -- One line: what the machine asks for is there, and its formula stands behind the others.
-use Rattle.std.specs.Prelude.{ℕ, ◌+◌, ◌≤◌, List, [], ◌∷◌, ◌++◌, ◌≡◌, refl, length}
+use Rattle.std.specs.Prelude.{ℕ, ◌+◌, ◌≤◌, List, [], ◌∷◌, ◌++◌, ◌≡◌, refl, length, Ok, Err}
 use Rattle.std.proofs.Common.{sym, subst, arith}
 use Rattle.node.specs.Limits.{max_nodes}
 use Rattle.node.specs.Ltl.{Formula}
 use Rattle.node.specs.Result.{Done}
 use Rattle.node.proofs.ResultLaws.{bind_refused, bind_to}
+use Rattle.node.specs.Returned.{Returned}
+use Rattle.node.specs.declared.Refusal.{Refusal}
 use Rattle.language.specs.Tree.{Expr, Part, Spec}
 use Rattle.language.specs.DeclaredNames.{Declarations}
 use Rattle.language.specs.Numbering.{in_order}
 use Rattle.language.specs.Expansion.{expansion}
 use Rattle.operands.specs.Working.{Source}
 use Rattle.machine_run.specs.Running.{Given, Runnable, Formed, Answers, FormulaTold}
-use Rattle.machine_run.specs.declared.Written.{Written}
-use Rattle.machine_run.specs.declared.Written.TheVariants.{At}
 use Rattle.memory_notes.specs.RealmLaws.{operand}
 use Rattle.assembly.specs.Gathered.{LineRoom, Adds}
 use Rattle.assembly.specs.GatheredLaws.{line-room}
 use Rattle.assembly.specs.declared.implied.Ends.{Ends}
 use Rattle.lines.specs.Gathering.{line_context, realm_of, Buffers, buffers, Sizes, AtLine, SomeLine, WritesLine}
 use Rattle.lines.specs.declared.Place.{Place}
-use Rattle.lines.specs.declared.Gathering.{Gathering}
-use Rattle.lines.specs.declared.Gathering.TheVariants.{Lines}
 
 module _ {s : Source} {b : Buffers} {here : Place} {e : Ends} where
   line-given : {start : ℕ} {x : Spec} {d : Declarations} {ls : List (Part × Formula)} {p : Part} {f : Expr} (a : AtLine s b here e start x d ls p f)
@@ -51,26 +49,26 @@ module _ {s : Source} {b : Buffers} {here : Place} {e : Ends} where
   line-part l = let h = l.at.heads in omega arith
 
   -- what the machine answers of the line
-  module _ {memory' table' : List ℕ} {r : Written} (h : FormulaTold s b.memory memory' b.table table' here.entries here.k e.at r) where
-    line-answered : {start : ℕ} {x : Spec} {d : Declarations} {ls : List (Part × Formula)} {p : Part} {f : Expr} (w : Written) → r ≡ w → (a : AtLine s b here e start x d ls p f)
+  module _ {memory' table' : List ℕ} {r : Returned ℕ} (h : FormulaTold s b.memory memory' b.table table' here.entries here.k e.at r) where
+    line-answered : {start : ℕ} {x : Spec} {d : Declarations} {ls : List (Part × Formula)} {p : Part} {f : Expr} (w : Returned ℕ) → r ≡ w → (a : AtLine s b here e start x d ls p f)
         → Answers (Formed (realm_of a.tree) memory' b.table table' here.entries e.at) w (expansion (line_context x d) f)
     line-answered {x = x} {d = d} {f = f} w q a =
         subst (λ u. Answers (Formed (realm_of a.tree) memory' b.table table' here.entries e.at) u (expansion (line_context x d) f)) q
         (h.tells (realm_of a.tree) (line_context x d) f (line-given a))
 
-    pub room-for-line : {next section : ℕ} → r ≡ At next → 2 + section ≡ here.heading → SomeLine s b here e → max_nodes ≤ length b.words
+    pub room-for-line : {next section : ℕ} → r ≡ Ok next → 2 + section ≡ here.heading → SomeLine s b here e → max_nodes ≤ length b.words
         → LineRoom section e.at next b.words e.count
     room-for-line {next} q n l z =
-        let w = line-answered (At next) q l.at in
+        let w = line-answered (Ok next) q l.at in
         let i = l.at.heads in
         line-room l.at.reached.gathered w.1.1.wrote l.p (omega arith) z
 
-    pub line-written : {next section : ℕ} → r ≡ At next → 2 + section ≡ here.heading → {words' : List ℕ} {more : ℕ} → Adds section e.at next b.words words' e.count more
-        → length words' ≡ length b.words → WritesLine s b (buffers memory' table' words') here e (Lines more next)
+    pub line-written : {next section : ℕ} → r ≡ Ok next → 2 + section ≡ here.heading → {words' : List ℕ} {more : ℕ} → Adds section e.at next b.words words' e.count more
+        → length words' ≡ length b.words → WritesLine s b (buffers memory' table' words') here e (Ok (record { at = next; count = more }))
     line-written {next} q n adds m = record {
       lengths = record { memory = h.len; slots = h.slots; words = m };
       says = λ {start} {x} {d} {ls} {p} {f} a.
-          let w = line-answered (At next) q a in
+          let w = line-answered (Ok next) q a in
           let i = a.heads in
           record {
             says = record {
@@ -86,8 +84,8 @@ module _ {s : Source} {b : Buffers} {here : Place} {e : Ends} where
           };
     }
 
-    pub line_refused : {n p : ℕ} {g : Gathering} → r ≡ Written.Refused n p → g ≡ Gathering.Refused n p → WritesLine s b (buffers memory' table' b.words) here e g
-    line_refused {n} {p} q z = subst (WritesLine s b (buffers memory' table' b.words) here e) (sym z) (record {
+    pub line_refused : {f : Refusal} {g : Returned Ends} → r ≡ Err f → g ≡ Err f → WritesLine s b (buffers memory' table' b.words) here e g
+    line_refused {f} q z = subst (WritesLine s b (buffers memory' table' b.words) here e) (sym z) (record {
       lengths = record { memory = h.len; slots = h.slots; words = refl };
-      says = λ {start} {x} {d} {ls} {p = o} a. record { says = bind_refused _ _ _ (λ g. Done (ls ++ ((o, g) ∷ []))) (line-answered (Written.Refused n p) q a) };
+      says = λ {start} {x} {d} {ls} {p = o} a. record { says = bind_refused _ _ _ (λ g. Done (ls ++ ((o, g) ∷ []))) (line-answered (Err f) q a) };
     })

@@ -1,5 +1,5 @@
 -- The walk entry by entry: a heading, a line, any other entry.
-use Rattle.std.specs.Prelude.{ℕ, suc, ◌+◌, ◌-◌, ◌≤◌, ◌<◌, ◌≡◌, length}
+use Rattle.std.specs.Prelude.{ℕ, suc, ◌+◌, ◌-◌, ◌≤◌, ◌<◌, ◌≡◌, length, Ok, Err}
 use mathlib.Core.List.{List, [], ◌∷◌, ◌++◌, append_assoc, append-nil}
 use Rattle.std.proofs.Math.Path.{refl, ap}
 use Rattle.std.proofs.Common.{sym, ◌∙◌, subst, arith, add-one}
@@ -8,6 +8,8 @@ use Rattle.node.specs.Limits.{max_nodes}
 use Rattle.node.specs.Ltl.{Formula}
 use Rattle.node.specs.Result.{Result, Done, Refused, ◌>>=◌}
 use Rattle.node.proofs.ResultLaws.{not_done, bind_value}
+use Rattle.node.specs.Returned.{Returned}
+use Rattle.node.specs.declared.Refusal.{Refusal}
 use Rattle.language.specs.Tokens.{Token, tokens}
 use Rattle.language.specs.Tree.{Expr, Part, Spec}
 use Rattle.language.specs.DeclaredNames.{Declarations}
@@ -29,8 +31,6 @@ use Rattle.assembly.specs.Gathered.{GatheredFrom}
 use Rattle.assembly.specs.GatheredLaws.{gathered_none}
 use Rattle.lines.specs.Gathering.{line_context, Tree, Buffers, Sizes, Lengths, AtLine, SomeLine, Formulas, ends_at, WritesLine, SomeTree, WritesLines, Ahead, Progress, Walking}
 use Rattle.lines.specs.declared.Place.{Place}
-use Rattle.lines.specs.declared.Gathering.{Gathering}
-use Rattle.lines.specs.declared.Gathering.TheVariants.{Lines}
 
 -- a line's formula behind those before it, or a refusal in place of all
 module _ (p : Part) (ls : List (Part × Formula)) where
@@ -119,7 +119,7 @@ module _ {s : Source} {entries : ℕ} {x : Spec} {d : Declarations} {tree : Tree
   line-begun n = let h = n.ahead.headed.0 in g.begun (omega arith)
 
   module _ (n : NextLine) {b' : Buffers} where
-    progress-line : {more at : ℕ} → WritesLine s b b' (place entries part (i - 1)) e (Lines more at) → Progress tree b' (ends_at at more) part (suc i) start
+    progress-line : {next : Ends} → WritesLine s b b' (place entries part (i - 1)) e (Ok next) → Progress tree b' next part (suc i) start
     progress-line w =
         let r = (w.says (at-line n)).says in
         let a = n.ahead in
@@ -138,7 +138,7 @@ module _ {s : Source} {entries : ℕ} {x : Spec} {d : Declarations} {tree : Tree
           begun = λ l. omega arith;
         }
 
-    progress-refused : {m q : ℕ} → WritesLine s b b' (place entries part (i - 1)) e (Gathering.Refused m q) → worked (line_context x d) (items x) ≡ Refused m q
+    progress-refused : {f : Refusal} → WritesLine s b b' (place entries part (i - 1)) e (Err f) → worked (line_context x d) (items x) ≡ Refused f.number f.place
     progress-refused w = n.ahead.split ∙ line-refuses n.p g.ls (expansion (line_context x d) n.f) (worked (line_context x d) n.is) (w.says (at-line n)).says
 
 -- the buffers' sizes stay
@@ -180,7 +180,7 @@ module _ {s : Source} {b₀ : Buffers} {entries start : ℕ} where
   }
 
   module _ {b : Buffers} {e : Ends} {part i : ℕ} (w : Walking s b₀ b e entries start part i) where
-    pub walking-all : entries ≤ i → WritesLines s b₀ b entries start (Lines e.count e.at)
+    pub walking-all : entries ≤ i → WritesLines s b₀ b entries start (Ok e)
     walking-all l = record { says = λ {x} {d} h. record { says = let g = w.progress h in end x d g.ls g.reached.gathered g.rest g.ahead } }
       where
         end : (x : Spec) (d : Declarations) (ls : List (Part × Formula)) → GatheredFrom start ls b.words e.count b.table e.at → (rest : List Item) → Ahead s entries part i x d ls rest
@@ -206,14 +206,14 @@ module _ {s : Source} {b₀ : Buffers} {entries start : ℕ} where
         pub some-begun : SomeTree s b₀ entries start → 0 < i
         some-begun t = let g = w.progress t.begins in line-begun here inside g (next-line here inside g k)
 
-        module _ {b' : Buffers} {r : Gathering} (f : WritesLine s b b' (place entries part (i - 1)) e r) where
-          answer-is : {a : Gathering} → r ≡ a → WritesLine s b b' (place entries part (i - 1)) e a
+        module _ {b' : Buffers} {r : Returned Ends} (f : WritesLine s b b' (place entries part (i - 1)) e r) where
+          answer-is : {a : Returned Ends} → r ≡ a → WritesLine s b b' (place entries part (i - 1)) e a
           answer-is q = subst (WritesLine s b b' (place entries part (i - 1)) e) q f
 
-          pub walking_line : {more next : ℕ} → r ≡ Lines more next → Walking s b₀ b' (ends_at next more) entries start part (i + 1)
+          pub walking_line : {next : Ends} → r ≡ Ok next → Walking s b₀ b' next entries start part (i + 1)
           walking_line q = rw add-one (record { progress = λ h. let g = w.progress h in progress-line here inside g (next-line here inside g k) (answer-is q) })
 
-          pub walking-refused : {m q : ℕ} → r ≡ Gathering.Refused m q → WritesLines s b₀ b' entries start r
-          walking-refused z =
-              subst (WritesLines s b₀ b' entries start) (sym z)
+          pub walking-refused : {g : Returned Ends} {f : Refusal} → r ≡ Err f → g ≡ Err f → WritesLines s b₀ b' entries start g
+          walking-refused z y =
+              subst (WritesLines s b₀ b' entries start) (sym y)
               (record { says = λ h. record { says = let g = w.progress h in progress-refused here inside g (next-line here inside g k) (answer-is z) } })

@@ -1,5 +1,7 @@
 -- All lines of a text: the written ones, and behind them the implied ones of its inputs and of its outputs.
 use Rattle.std.specs.Prelude.{ℕ, List}
+use Rattle.node.specs.Returned.{Returned}
+use Rattle.assembly.specs.declared.implied.Ends.{Ends}
 use Rattle.language.specs.Tree.{Spec}
 use Rattle.language.specs.DeclaredNames.{Declarations}
 use Rattle.language.specs.Numbering.{in_order}
@@ -10,7 +12,6 @@ use Rattle.assembly.specs.Implied.{Buses}
 use Rattle.assembly.specs.declared.implied.Ports.{Ports}
 use Rattle.lines.specs.Gathering.{Buffers, Begins, Answered}
 use Rattle.lines.specs.declared.Plan.{Plan}
-use Rattle.lines.specs.declared.Gathering.{Gathering}
 
 -- the start, with the ports: those before position `ins` are the inputs
 pub record Given (s : Source) (b : Buffers) (a : Ports) (plan : Plan) (x : Spec) (d : Declarations) : Type 0 where
@@ -24,5 +25,5 @@ pub record SomeGiven (s : Source) (b : Buffers) (a : Ports) (plan : Plan) : Type
   pub given : Given s b a plan x d
 
 -- of whatever text the entries are, the formulas of all its lines are gathered, in the order of its sections
-pub record Gathers (s : Source) (b : Buffers) (table' words' : List ℕ) (a : Ports) (plan : Plan) (r : Gathering) : Type 0 where
+pub record Gathers (s : Source) (b : Buffers) (table' words' : List ℕ) (a : Ports) (plan : Plan) (r : Returned Ends) : Type 0 where
   pub says : {x : Spec} {d : Declarations} → Given s b a plan x d → Answered (λ n m all. GatheredFrom plan.start all words' n table' m) r (lines_in_turn x d (lines x d))

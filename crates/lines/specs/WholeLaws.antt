@@ -1,10 +1,12 @@
 -- The implied lines stand behind the written ones, and together they are the lines of the sections.
-use Rattle.std.specs.Prelude.{ℕ, suc, ◌≤◌, List, [], ◌∷◌, ◌++◌, map, ◌≡◌, length}
+use Rattle.std.specs.Prelude.{ℕ, suc, ◌≤◌, List, [], ◌∷◌, ◌++◌, map, ◌≡◌, length, Ok, Err}
 use Rattle.std.proofs.Common.{sym, ap, ◌∙◌, subst, arith}
 use Rattle.node.specs.Limits.{max_nodes}
 use Rattle.node.specs.Ltl.{Formula}
 use Rattle.node.specs.Result.{Done, Refused, ◌>>=◌}
 use Rattle.node.proofs.ResultLaws.{bind_refused, bind_to}
+use Rattle.node.specs.Returned.{Returned}
+use Rattle.node.specs.declared.Refusal.{Refusal}
 use Rattle.language.specs.Limits.{work_bytes}
 use Rattle.language.specs.Tree.{Part, Require, Assert, part_code, Spec}
 use Rattle.language.specs.DeclaredNames.{Port, Declarations}
@@ -21,11 +23,9 @@ use Rattle.assembly.specs.declared.implied.Ports.{Ports}
 use Rattle.assembly.specs.declared.implied.Span.{Span}
 use Rattle.lines.specs.Items.{items, worked}
 use Rattle.lines.specs.WorkedLaws.{sections-in_turn}
-use Rattle.lines.specs.Gathering.{line_context, Buffers, ends_at, SomeTree, WritesLines}
+use Rattle.lines.specs.Gathering.{line_context, Buffers, SomeTree, WritesLines}
 use Rattle.lines.specs.Whole.{Given, SomeGiven, Gathers}
 use Rattle.lines.specs.declared.Plan.{Plan}
-use Rattle.lines.specs.declared.Gathering.{Gathering}
-use Rattle.lines.specs.declared.Gathering.TheVariants.{Lines}
 
 -- the lines of the sections, by the formulas of the written lines
 module _ (x : Spec) (d : Declarations) where
@@ -77,19 +77,19 @@ span part from to = record { part = part; from = from; to = to }
 pub given-tree : {s : Source} {b : Buffers} {a : Ports} {plan : Plan} → SomeGiven s b a plan → SomeTree s b plan.entries plan.start
 given-tree g = record { x = g.x; d = g.d; begins = g.given.begins }
 
-pub answer-is : {s : Source} {b b' : Buffers} {entries start : ℕ} {r a : Gathering} → WritesLines s b b' entries start r → r ≡ a → WritesLines s b b' entries start a
+pub answer-is : {s : Source} {b b' : Buffers} {entries start : ℕ} {r a : Returned Ends} → WritesLines s b b' entries start r → r ≡ a → WritesLines s b b' entries start a
 answer-is {s} {b} {b'} {entries} {start} w e = subst (WritesLines s b b' entries start) e w
 
 module _ {s : Source} {b b' : Buffers} {a : Ports} {plan : Plan} where
   -- a written line is refused
-  pub gathers_refused : {r : Gathering} {n p : ℕ} {table' words' : List ℕ} → WritesLines s b b' plan.entries plan.start r → r ≡ Gathering.Refused n p → Gathers s b table' words' a plan r
-  gathers_refused {table' = table'} {words' = words'} w e =
-      subst (Gathers s b table' words' a plan) (sym e) (record { says = λ {x} {d} g. record { says = lines-refused x d ((answer-is w e).says g.begins).says } })
+  pub gathers_refused : {r g : Returned Ends} {f : Refusal} {table' words' : List ℕ} → WritesLines s b b' plan.entries plan.start r → r ≡ Err f → g ≡ Err f → Gathers s b table' words' a plan g
+  gathers_refused {table' = table'} {words' = words'} w e z =
+      subst (Gathers s b table' words' a plan) (sym z) (record { says = λ {x} {d} g. record { says = lines-refused x d ((answer-is w e).says g.begins).says } })
 
   -- the written lines are there: those of the inputs follow, and those of the outputs
-  module _ {count at part from to : ℕ} (w : WritesLines s b b' plan.entries plan.start (Lines count at)) (required : part ≡ part_code Require) (first : from ≡ 0) (last : to ≡ plan.ins) where
+  module _ {written : Ends} {part from to : ℕ} (w : WritesLines s b b' plan.entries plan.start (Ok written)) (required : part ≡ part_code Require) (first : from ≡ 0) (last : to ≡ plan.ins) where
     pub inputs-ready : SomeGiven s b a plan → max_nodes ≤ length b'.words → work_bytes ≤ length s.work
-        → Ready s.text s.work a (span part from to) (ends_at at count) b'.table b'.words
+        → Ready s.text s.work a (span part from to) written b'.table b'.words
     inputs-ready g l k =
         let f = (w.says g.given.begins).says in
         record {
@@ -100,8 +100,8 @@ module _ {s : Source} {b b' : Buffers} {a : Ports} {plan : Plan} where
         }
 
     module _ {e : Ends} {table'' words'' : List ℕ}
-        (i : (ps qs : List Port) → Buses s.text s.work a ps at from to qs
-        → AddsAll part (ends_at at count) b'.table b'.words table'' words'' e (implied_formulas ps qs)) where
+        (i : (ps qs : List Port) → Buses s.text s.work a ps written.at from to qs
+        → AddsAll part written b'.table b'.words table'' words'' e (implied_formulas ps qs)) where
       inputs-gathered : {x : Spec} {d : Declarations} (g : Given s b a plan x d)
           → GatheredFrom plan.start ((w.says g.begins).says.all ++ map (λ f. (Require, f)) (implied_formulas (in_order d) d.inputs)) words'' e.count table'' e.at
       inputs-gathered {x} {d} g =
@@ -121,7 +121,7 @@ module _ {s : Source} {b b' : Buffers} {a : Ports} {plan : Plan} where
 
         pub gathers-all : {r : Ends} {table''' words''' : List ℕ}
             → ((ps qs : List Port) → Buses s.text s.work a ps e.at begin end qs → AddsAll more e table'' words'' table''' words''' r (implied_formulas ps qs))
-            → Gathers s b table''' words''' a plan (Lines r.count r.at)
+            → Gathers s b table''' words''' a plan (Ok r)
         gathers-all o = record {
           says = λ {x} {d} g.
               let h = inputs-gathered g in

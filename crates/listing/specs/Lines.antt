@@ -1,7 +1,7 @@
 -- The lines of document 01's listing, byte by byte.
-use Rattle.std.specs.Prelude.{ℕ, zero, suc, List, [], ◌++◌, slice_index, codes}
+use Rattle.std.specs.Prelude.{ℕ, zero, suc, List, [], ◌++◌, slice_index, codes, Ok, Err}
 use Rattle.std.specs.Fmt.{decimal}
-use Rattle.node.specs.declared.Answer.{Answer}
+use Rattle.node.specs.Answer.{Answer}
 use Rattle.node.specs.Fields.{kind_of, first_of, second_of}
 
 -- a line's last two numbers, a blank before each, and a line feed
@@ -10,8 +10,8 @@ two first second = codes " " ++ decimal first ++ codes " " ++ decimal second ++ 
 
 -- an answer's line
 abbrev pub answer_line : Answer → List ℕ
-answer_line (Answer.Accepted nodes signals) = codes "accepted" ++ two nodes signals
-answer_line (Answer.Refused number place) = codes "refused" ++ two number place
+answer_line (Ok (nodes, signals)) = codes "accepted" ++ two nodes signals
+answer_line (Err r) = codes "refused" ++ two r.number r.place
 
 -- the line of node i: its number, kind, first and second field
 abbrev pub node_line : ℕ → ℕ → List ℕ

@@ -1,12 +1,14 @@
 -- The promise of `reach_of` from its answer alone; and 'the reach is the same number in all three forms' (document 02, F-3) on tables.
-use Rattle.std.specs.Prelude.{ℕ, ◌-◌, ◌≤◌, ◌≡◌, List, ◌++◌, length, take, drop, leb}
+use Rattle.std.specs.Prelude.{ℕ, ◌-◌, ◌≤◌, ◌≡◌, List, ◌++◌, length, take, drop, leb, Ok, Err}
 use Rattle.std.proofs.Math.Path.{ap, sym}
 use Rattle.std.proofs.Common.{◌∙◌, arith, take_at}
 use Rattle.node.specs.Limits.{field_limit}
 use Rattle.node.specs.Ltl.{Formula, Word}
 use Rattle.node.specs.Result.{Result, Done, Counts}
 use Rattle.node.proofs.ResultLaws.{guard-done, bind_done, bind_to, bind_refused}
-use Rattle.node.specs.Answer.{says}
+use Rattle.node.specs.Answer.{Answer, says}
+use Rattle.node.specs.Returned.{Returned}
+use Rattle.node.specs.declared.Refusal.{Refusal}
 use Rattle.node.specs.Table.{root, checked}
 use Rattle.node.specs.Formed.{Formed}
 use Rattle.node.proofs.TableLaws.{checked-done}
@@ -14,7 +16,6 @@ use Rattle.node.specs.Postorder.{SignalsBelow}
 use Rattle.node.proofs.PostorderLaws.{tree-signals}
 use Rattle.node.specs.Written.{nodes_of, count}
 use Rattle.node.proofs.WrittenLaws.{length_of, table_of, table-root}
-use Rattle.node.specs.declared.Answer.{Answer}
 use Rattle.forms.proofs.FormSignals.{form-signals}
 use Rattle.rewriter.specs.Rewriting.{target, fitting, rewriting, leaves}
 use Rattle.rewriter.specs.RewritingLaws.{Accepts, accepts}
@@ -47,7 +48,7 @@ reported_shared (Ahead m) n e u v h = let q : m ≡ n = cc in λ p l g. h p (ome
 reported_shared Endless n e u v h = let z : ◌≡◌ {A = ℕ} 0 1 = cc in absurd (omega arith)
 
 -- the promise follows from the answer
-pub reaches : {r : Reach} {nodes : List ℕ} → looks r ≡ reaching nodes → Reaches r nodes
+pub reaches : {r : Returned Reach} {nodes : List ℕ} → looks r ≡ reaching nodes → Reaches r nodes
 reaches {r} {nodes} e =
     record {
       answer = e;
@@ -56,14 +57,14 @@ reaches {r} {nodes} e =
     }
 
 -- a refused table, and one that is accepted
-module _ {t : Answer} {x y : ℕ} (nodes : List ℕ) (e : says t ≡ checked field_limit nodes) where
-  pub reaches_refused : t ≡ Answer.Refused x y → Reaches (Reach.Refused x y) nodes
-  reaches_refused q = reaches (sym (reaching-refused nodes (sym e ∙ ap says q)))
+module _ {t : Answer} (nodes : List ℕ) (e : says t ≡ checked field_limit nodes) where
+  pub reaches_refused : {x : Refusal} {r : Returned Reach} → t ≡ Err x → r ≡ Err x → Reaches r nodes
+  reaches_refused q h = reaches (ap looks h ∙ sym (reaching-refused nodes (sym e ∙ ap says q)))
 
-  pub formed_of : t ≡ Answer.Accepted x y → Formed field_limit nodes
+  pub formed_of : {x y : ℕ} → t ≡ Ok (x, y) → Formed field_limit nodes
   formed_of q = (checked-done (sym e ∙ ap says q)).formed
 
-  pub reaches_done : {r : Reach} → t ≡ Answer.Accepted x y → looks r ≡ Done (reported (span (root nodes))) → Reaches r nodes
+  pub reaches_done : {x y : ℕ} {r : Returned Reach} → t ≡ Ok (x, y) → looks r ≡ Done (reported (span (root nodes))) → Reaches r nodes
   reaches_done q k = reaches (k ∙ sym (reaching-done nodes (sym e ∙ ap says q)))
 
 -- the rewriter's forms
@@ -83,7 +84,7 @@ module _ (number : ℕ) (nodes : List ℕ) where
       ∙ sym (reaching-done nodes q.1)
 
   -- so have the nodes that the rewriter leaves
-  pub left-reaching : (out out' : List ℕ) {r : Answer} (n s : ℕ) → Rewrites number nodes out out' r → r ≡ Answer.Accepted n s → reaching (take n out') ≡ reaching nodes
+  pub left-reaching : (out out' : List ℕ) {r : Answer} (n s : ℕ) → Rewrites number nodes out out' r → r ≡ Ok (n, s) → reaching (take n out') ≡ reaching nodes
   left-reaching out out' n s w q =
       let e : rewriting number nodes (length out) ≡ Done (record { nodes = n; signals = s }) = sym w.answer ∙ ap says q in
       let f : Formula = target number nodes in

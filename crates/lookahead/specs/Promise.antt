@@ -1,7 +1,8 @@
 -- What `reach_of` promises (document 02, F-3).
 use Rattle.std.specs.Prelude.{ℕ, ◌≤◌, ◌≡◌, ◌↔◌, List}
 use Rattle.node.specs.Ltl.{Word, Holds}
-use Rattle.node.specs.Result.{Done, ◌>>=◌}
+use Rattle.node.specs.Returned.{Returned}
+use Rattle.node.specs.Result.{Done}
 use Rattle.node.specs.Table.{root}
 use Rattle.forms.specs.Forms.{form}
 use Rattle.lookahead.specs.Span.{span}
@@ -9,7 +10,7 @@ use Rattle.lookahead.specs.declared.Reach.{Reach}
 use Rattle.lookahead.specs.Reaching.{Distance, Letters, reported, reaching, looks}
 
 -- what `reach_of` promises
-pub record Reaches (r : Reach) (nodes : List ℕ) : Type 0 where
+pub record Reaches (r : Returned Reach) (nodes : List ℕ) : Type 0 where
   -- the reach, or the refusal, is the definition's
   pub answer : looks r ≡ reaching nodes
   -- 'Two words that agree on letters 0 to the reach give the same verdict, however they differ later'

@@ -1,7 +1,8 @@
 -- The reach of a table's root, and the whole answer: document 02, F-3. Laws in ReachingLaws.
-use Rattle.std.specs.Prelude.{ℕ, List}
+use Rattle.std.specs.Prelude.{ℕ, List, Ok, Err}
 use Rattle.node.specs.Limits.{field_limit}
 use Rattle.node.specs.Result.{Result, Done, ◌>>=◌, Counts}
+use Rattle.node.specs.Returned.{Returned}
 use Rattle.node.specs.Table.{root, checked}
 use Rattle.lookahead.specs.Span.{Span, Silent, Ahead, Endless, span}
 use Rattle.lookahead.specs.declared.Reach.{Reach}
@@ -21,11 +22,11 @@ reported Endless = Unbounded
 unfoldable pub reaching : List ℕ → Result Distance
 reaching nodes = checked field_limit nodes >>= λ _. Done (reported (span (root nodes)))
 
--- what a `Reach` says
-abbrev pub looks : Reach → Result Distance
-looks (Reach.Letters n) = Done (Letters n)
-looks Reach.Unbounded = Done Unbounded
-looks (Reach.Refused number place) = Result.Refused number place
+-- what is answered: a `Reach`, or a refusal
+abbrev pub looks : Returned Reach → Result Distance
+looks (Ok (Reach.Letters n)) = Done (Letters n)
+looks (Ok Reach.Unbounded) = Done Unbounded
+looks (Err r) = Result.Refused r.number r.place
 
 -- its values in an accepted answer: a bounded reach n is (n, 0), unbounded (0, 1)
 abbrev pub valued : Result Distance → Result Counts

@@ -1,7 +1,7 @@
 // How far ahead the root of a table of nodes looks (document 02, F-3): one pass over the nodes, a number for each.
 #![tactic(auto)]
 
-ghost use Rattle.std.specs.Prelude.{◌≡◌, max, ◌≤◌, ◌<◌, length};
+ghost use Rattle.std.specs.Prelude.{◌≡◌, ◌≤◌, ◌<◌, length, Ok};
 ghost use Rattle.node.specs.Limits.{max_nodes, field_limit};
 ghost use Rattle.node.specs.Answer.{says};
 ghost use Rattle.node.specs.Formed.{Formed};
@@ -9,33 +9,29 @@ ghost use Rattle.lookahead.specs.Reaching.{looks, valued};
 ghost use Rattle.lookahead.specs.Promise.{Reaches};
 ghost use Rattle.lookahead.specs.Codes.{forever_code, narrow_code, node_code, told_code, near_count, number_at, InTable, Sized, Narrow, Spanned};
 
-use basics::least;
-use node::{Answer, MAX_NODES, Node};
+use node::{Answer, MAX_NODES, Node, Refusal};
 use rewriter::SIGNAL_LIMIT;
 
-// The reach of a table's root: letters 0 to so many decide, no number of letters does, or a refusal with number and place.
-#[derive(Clone, Copy)]
+// The reach of a table's root: letters 0 to so many decide, or no number of letters does.
+#[derive(Clone, Copy, PartialEq, Eq)]
 pub enum Reach {
     Letters(u32),
     Unbounded,
-    Refused(u32, u32),
 }
 
-impl Reach {
-    // As every entry point answers: accepted with (n, 0), unbounded (0, 1).
-    pub fn answer(self) -> Answer
-        ensures { says result ≡ valued (looks self) }
-    {
-        match self {
-            Reach::Letters(n) => Answer::Accepted(n, 0),
-            Reach::Unbounded => Answer::Accepted(0, 1),
-            Reach::Refused(number, place) => Answer::Refused(number, place),
-        }
+// As every entry point answers: accepted with (n, 0), unbounded (0, 1).
+pub fn answer(reach: Result<Reach, Refusal>) -> Answer
+    ensures { says result ≡ valued (looks reach) }
+{
+    match reach? {
+        Reach::Letters(n) => Ok((n, 0)),
+        Reach::Unbounded => Ok((0, 1)),
     }
 }
 
 // What a node looks at, as a number: below HERE no signal; HERE the letter at hand, and one more for each letter further ahead; from ENDLESS on no bound. So the wider is
 // the larger number, and X adds one to every number.
+// Numbers and no enum: two tables of bytes and of half words hold them, and they are compared and counted on.
 const SILENT: u16 = 0;
 
 const HERE: u16 = 16384;
@@ -48,12 +44,6 @@ const NEAR: usize = 254;
 const FAR: usize = MAX_NODES - NEAR;
 
 const NEAR_ENDLESS: u8 = 255;
-
-fn larger(a: u16, b: u16) -> u16
-    ensures { result ≡ max a b }
-{
-    if a < b { b } else { a }
-}
 
 // What G, F, U, R and W make of what they stand above: they look at every letter from theirs on, if at any.
 fn forever(s: u16) -> u16
@@ -91,7 +81,7 @@ fn number_at(near: &[u8], far: &[u16; FAR], i: usize) -> u16
     if s == NEAR_ENDLESS {
         return ENDLESS;
     }
-    s as u16 + (HERE - 1)
+    u16::from(s) + (HERE - 1)
 }
 
 // A node's number, from those of the nodes before it. It asks for operands that have one, and room for one more.
@@ -118,13 +108,13 @@ fn node_span(word: u32, near: &[u8], far: &[u16; FAR]) -> u16
     let y = node.second() as usize;
     if kind < Node::NEXT {
         let b = number_at(near, far, y);
-        return larger(a, b);
+        return a.max(b);
     }
     if kind <= Node::FINALLY {
         return forever(a);
     }
     let b = number_at(near, far, y);
-    forever(larger(a, b))
+    forever(a.max(b))
 }
 
 // The numbers of the first nodes, so many. It asks for a table that has passed the check, and names the arrays' lengths for its proof.
@@ -132,10 +122,8 @@ fn fill_near(nodes: &[u32], near: &mut [u8], far: &[u16; FAR], count: usize)
     requires { Formed field_limit nodes.now × Sized near.old far.now × (count ≤ length nodes.now) × (count ≤ near_count) }
     ensures { Spanned nodes.now count near.new far.now }
 {
-    let mut i = 0;
-    while i < count {
+    for i in 0..count {
         near[i] = narrowed(node_span(nodes[i], near, far));
-        i += 1;
     }
 }
 
@@ -144,10 +132,8 @@ fn fill_far(nodes: &[u32], near: &[u8], far: &mut [u16; FAR], from: usize)
     requires { Formed field_limit nodes.now × Spanned nodes.now from near.now far.old × (from ≤ length nodes.now) × (from < length nodes.now → near_count ≤ from) }
     ensures { Spanned nodes.now (length nodes.now) near.now far.new }
 {
-    let mut i = from;
-    while i < nodes.len() {
+    for i in from..nodes.len() {
         far[i - NEAR] = node_span(nodes[i], near, far);
-        i += 1;
     }
 }
 
@@ -156,14 +142,14 @@ fn fill_spans(nodes: &[u32], near: &mut [u8], far: &mut [u16; FAR])
     requires { Formed field_limit nodes.now × Sized near.old far.old }
     ensures { Spanned nodes.now (length nodes.now) near.new far.new }
 {
-    let count = least(nodes.len(), NEAR);
+    let count = nodes.len().min(NEAR);
     fill_near(nodes, near, far, count);
     fill_far(nodes, near, far, count);
 }
 
 // The reach that a number stands for.
 fn told(s: u16) -> Reach
-    ensures { looks result ≡ told_code s }
+    ensures { looks (Ok result) ≡ told_code s }
 {
     if ENDLESS <= s {
         return Reach::Unbounded;
@@ -171,19 +157,16 @@ fn told(s: u16) -> Reach
     if s < HERE {
         return Reach::Letters(0);
     }
-    Reach::Letters((s - HERE) as u32)
+    Reach::Letters(u32::from(s - HERE))
 }
 
 // The reach of the table's root, or the refusal of the table (19).
-pub fn reach_of(nodes: &[u32]) -> Reach
+pub fn reach_of(nodes: &[u32]) -> Result<Reach, Refusal>
     ensures { Reaches result nodes.now }
 {
-    let table = node::check_table(nodes, SIGNAL_LIMIT);
-    if let Answer::Refused(number, place) = table {
-        return Reach::Refused(number, place);
-    }
+    node::check_table(nodes, SIGNAL_LIMIT)?;
     let mut near: [u8; NEAR] = [0; NEAR];
     let mut far: [u16; FAR] = [SILENT; FAR];
     fill_spans(nodes, &mut near, &mut far);
-    told(number_at(&near, &far, nodes.len() - 1))
+    Ok(told(number_at(&near, &far, nodes.len() - 1)))
 }

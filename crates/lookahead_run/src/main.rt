@@ -31,8 +31,7 @@ const PASSED_OVER: [u32; 3] = [SIGNAL, 9 * KIND, 8 * KIND];
 fn show(to: &mut impl Write, name: &[u8], nodes: &[u32]) -> io::Result<()> {
     to.write_all(name)?;
     to.write_all(b": ")?;
-    let reach = lookahead::reach_of(nodes);
-    listing::answer(to, reach.answer())
+    listing::answer(to, lookahead::answer(lookahead::reach_of(nodes)))
 }
 
 fn second(shared: bool, before: u32) -> u32

@@ -1,5 +1,5 @@
 -- An entry is worked out: its value comes, its formula is written, another entry takes its place, or a frame waits while an operand is worked out.
-use Rattle.std.specs.Prelude.{ℕ, zero, suc, ◌+◌, ◌≤◌, ◌<◌, Bool, true, ◌≡◌, refl, drop}
+use Rattle.std.specs.Prelude.{ℕ, zero, suc, ◌+◌, ◌≤◌, ◌<◌, Bool, true, ◌≡◌, refl, drop, Ok, Err}
 use mathlib.Core.List.{List, [], ◌∷◌, ◌++◌}
 use Rattle.std.proofs.Math.Path.{sym, ap, subst}
 use Rattle.std.proofs.Common.{◌∙◌, arith}
@@ -8,6 +8,8 @@ use Rattle.std.proofs.Math.ListN.{length}
 use Rattle.node.specs.Limits.{max_nodes}
 use Rattle.node.specs.Ltl.{Formula}
 use Rattle.node.specs.Result.{Result, Done, Refused, ◌>>=◌}
+use Rattle.node.specs.Returned.{refusal}
+use Rattle.machine.specs.declared.Move.TheVariants.{Next}
 use Rattle.writing.specs.Writing.{Wrote}
 use Rattle.writing.specs.StayLaws.{wrote_stays}
 use Rattle.language.specs.Limits.{max_tokens, max_elements}
@@ -35,7 +37,6 @@ use Rattle.machine.specs.StateLaws.{Entered, come_mode, mode_few}
 use Rattle.machine.specs.Moves.{came, wrote}
 use Rattle.machine.specs.declared.Words.{Words}
 use Rattle.machine.specs.declared.Machine.{Machine}
-use Rattle.machine.specs.declared.Move.TheVariants.{Next, Refused as Refuses}
 
 pub costs-frame : (mem : List ℕ) (at : ℕ) (w : Words) {rest : List ℕ} → drop at mem ≡ spread w rest → costs (drop at mem) ≡ weight w.phase w.entry w.count + costs rest
 unfolding costs
@@ -57,7 +58,7 @@ module _ {s : Source} {R : Realm s} {mem out : List ℕ} {m : Machine} {x : Resu
 
   -- its value
   pub comes : (v : Value) {mode value from : ℕ} → works h.aim h.context h.tree ≡ Done (Worth v) → Tells R.W mode value from v
-      → Standing R o mem (came m mode value from) v → Turned R mem mem out out m x o (Next (came m mode value from))
+      → Standing R o mem (came m mode value from) v → Turned R mem mem out out m x o (Ok (Next (came m mode value from)))
   comes v {mode} {value} {from} e t z =
       let c = cost-here in
       let p = price_some (suc m.value) in
@@ -85,7 +86,7 @@ module _ {s : Source} {R : Realm s} {mem out : List ℕ} {m : Machine} {x : Resu
 
   -- its formula
   pub writes : (f : Formula) {r : ℕ} {out' : List ℕ} → works h.aim h.context h.tree ≡ Done (Nodes f) → Wrote f out out' m.nodes r → r ≤ suc max_nodes
-      → Turned R mem mem out out' m x o (Next (wrote m r))
+      → Turned R mem mem out out' m x o (Ok (Next (wrote m r)))
   writes f e w l =
       let c = cost-here in
       let p = price_some (suc m.value) in
@@ -110,12 +111,12 @@ module _ {s : Source} {R : Realm s} {mem out : List ℕ} {m : Machine} {x : Resu
       }
 
   -- it is refused
-  pub fails : {number place : ℕ} → works h.aim h.context h.tree ≡ Refused number place → Turned R mem mem out out m x o (Refuses number place)
+  pub fails : {number place : ℕ} → works h.aim h.context h.tree ≡ Refused number place → Turned R mem mem out out m x o (Err (refusal number place))
   fails {number} {place} e = record { len = refl; after = means_refused x h.frames number place (means_as x h.frames e h.same) }
 
   -- another entry is worked out in its place
   pub leads : {j : ℕ} {t : Expr} → j < m.value → works h.aim h.context h.tree ≡ works h.aim h.context t
-      → Operand s R.W R.ports h.at.env h.context j t → Turned R mem mem out out m x o (Next (came m m.mode j 0))
+      → Operand s R.W R.ports h.at.env h.context j t → Turned R mem mem out out m x o (Ok (Next (came m m.mode j 0)))
   leads {j} {t} l e p =
       let c = cost-here in
       let b = h.at.below in
@@ -181,7 +182,7 @@ module _ {s : Source} {R : Realm s} {mem out : List ℕ} {m : Machine} {x : Resu
     pub kept : Kept F (works a c e)
     pub same : works h.aim h.context h.tree ≡ (works a c e >>= apply F)
 
-  pub pushes_in : {reserved : ℕ} {F : Frame} {inside flat : Bool} {a : Aim} {c : Context} {e : Expr} {mem' : List ℕ} {n : Machine} → PushingIn reserved F inside flat a c e mem' n → Turned R mem mem' out out m x o (Next n)
+  pub pushes_in : {reserved : ℕ} {F : Frame} {inside flat : Bool} {a : Aim} {c : Context} {e : Expr} {mem' : List ℕ} {n : Machine} → PushingIn reserved F inside flat a c e mem' n → Turned R mem mem' out out m x o (Ok (Next n))
   unfolding forms_of
   pushes_in {reserved} {F} {inside} {a = a} {c} {e} {mem'} {n} p =
       let r = room-here in
@@ -303,7 +304,7 @@ module _ {s : Source} {R : Realm s} {mem out : List ℕ} {m : Machine} {x : Resu
     pub kept : Kept F (works a c e)
     pub same : works h.aim h.context h.tree ≡ (works a c e >>= apply F)
 
-  pub pushes : {F : Frame} {inside : Bool} {a : Aim} {c : Context} {e : Expr} {mem' : List ℕ} {n : Machine} → Pushing F inside a c e mem' n → Turned R mem mem' out out m x o (Next n)
+  pub pushes : {F : Frame} {inside : Bool} {a : Aim} {c : Context} {e : Expr} {mem' : List ℕ} {n : Machine} → Pushing F inside a c e mem' n → Turned R mem mem' out out m x o (Ok (Next n))
   pushes {F} {inside} {a} {c} {e} p =
       let ei = p.entry-is in
       let be = p.below in

@@ -1,8 +1,9 @@
 -- Frames that hold no words: the state above one is as under it; it takes a value and is popped with the memory as it is.
-use Rattle.std.specs.Prelude.{ℕ, zero, suc, ◌+◌, ◌<◌, false, List, [], ◌++◌, ◌≡◌, refl}
+use Rattle.std.specs.Prelude.{ℕ, zero, suc, ◌+◌, ◌<◌, false, List, [], ◌++◌, ◌≡◌, refl, Ok}
 use Rattle.std.proofs.Common.{ap, ◌∙◌, arith, add-zero}
 use Rattle.std.proofs.Math.Decide.{dec_lt}
 use Rattle.node.specs.Result.{Result, Done}
+use Rattle.machine.specs.declared.Move.TheVariants.{Next}
 use Rattle.language.specs.Values.{Value}
 use Rattle.operands.specs.Working.{Source}
 use Rattle.machine.specs.Came.{Came, Worth}
@@ -19,7 +20,6 @@ use Rattle.machine.specs.States.{Standing, written, Turned, TopOf}
 use Rattle.machine.specs.TakeLaws.{words, pops}
 use Rattle.machine.specs.Moves.{popped, came}
 use Rattle.machine.specs.declared.Machine.{Machine}
-use Rattle.machine.specs.declared.Move.TheVariants.{Next}
 
 -- fewer operands are left
 pub times_less : (i j k : ℕ) → i < j → times i k + price k < times j k
@@ -56,7 +56,7 @@ module _ {s : Source} {R : Realm s} {mem out : List ℕ} {m : Machine} {x : Resu
 
   -- popped, with a value
   pub yields : {u : Value} → h.came ≡ Worth u → (v : Value) {mode value from : ℕ} → apply F h.came ≡ Done (Worth v) → Tells R.W mode value from v
-      → Standing R o mem (came (popped m) mode value from) v → Turned R mem mem out out m x o (Next (came (popped m) mode value from))
+      → Standing R o mem (came (popped m) mode value from) v → Turned R mem mem out out m x o (Ok (Next (came (popped m) mode value from)))
   yields c v {mode} {value} {from} e t z = pops h (record {
     same = e;
     come = record { tells = t; stands = z };

@@ -1,9 +1,10 @@
 -- Formulas: one that has come stands after those that its frame keeps, and a frame makes one of them all.
-use Rattle.std.specs.Prelude.{ℕ, suc, ◌+◌, ◌≤◌, true, false, List, ◌∷◌, ◌++◌, ◌≡◌, refl}
+use Rattle.std.specs.Prelude.{ℕ, suc, ◌+◌, ◌≤◌, true, false, List, ◌∷◌, ◌++◌, ◌≡◌, refl, Ok}
 use Rattle.std.proofs.Common.{ap, ◌∙◌, add-zero}
 use Rattle.node.specs.Limits.{max_nodes}
 use Rattle.node.specs.Ltl.{Formula}
 use Rattle.node.specs.Result.{Result, Done}
+use Rattle.machine.specs.declared.Move.TheVariants.{Next}
 use Rattle.writing.specs.Writing.{Wrote}
 use Rattle.writing.specs.StayLaws.{Stays}
 use Rattle.operands.specs.Working.{Source}
@@ -19,7 +20,6 @@ use Rattle.machine.specs.States.{written, Turned, TopOf}
 use Rattle.machine.specs.TakeLaws.{pops}
 use Rattle.machine.specs.Moves.{wrote, popped}
 use Rattle.machine.specs.declared.Machine.{Machine}
-use Rattle.machine.specs.declared.Move.TheVariants.{Next}
 
 module _ {s : Source} {R : Realm s} {mem out : List ℕ} {m : Machine} {x : Result Came} {o : Began} {F : Frame} (h : TopOf R mem out m x o F) where
   -- the formula that has come stands after those that the frame keeps
@@ -28,7 +28,7 @@ module _ {s : Source} {R : Realm s} {mem out : List ℕ} {m : Machine} {x : Resu
 
   -- popped with a formula that was written after those of the other frames
   pub finishes : (f : Formula) {before out' : List ℕ} {at r : ℕ} → (holding F).flat ≡ true → (holding F).inside ≡ false → (holding F).binds ≡ false → apply F h.came ≡ Done (Nodes f)
-      → Laid o (forms_of h.rest) before at → Wrote f before out' at r → r ≤ suc max_nodes → Stays out out' m.nodes r → Turned R mem mem out out' m x o (Next (wrote (popped m) r))
+      → Laid o (forms_of h.rest) before at → Wrote f before out' at r → r ≤ suc max_nodes → Stays out out' m.nodes r → Turned R mem mem out out' m x o (Ok (Next (wrote (popped m) r)))
   finishes f {before} {out'} {at} {r} fl fi fb e l w few st = pops h {v = Nodes f} (record {
     same = e;
     come = refl;

@@ -21,6 +21,7 @@ pub mod FactLaws
 pub mod TellLaws
 pub mod PlainLaws
 pub mod StateLaws
+pub mod Stepped
 pub mod Moves
 pub mod EnterLaws
 pub mod FrameViews

@@ -1,6 +1,7 @@
 -- A frame takes a number, a set, a formula or any value, by its phase; what comes of another kind is refused.
-use Rattle.std.specs.Prelude.{ℕ, List, [], ◌∷◌, ◌≡◌, get_or}
+use Rattle.std.specs.Prelude.{ℕ, List, [], ◌∷◌, ◌≡◌, get_or, Err}
 use Rattle.std.proofs.Common.{sym, ap, ◌∙◌, subst}
+use Rattle.node.specs.Returned.{refusal}
 use Rattle.language.specs.Values.{misfit}
 use Rattle.operands.specs.Working.{Source}
 use Rattle.machine.specs.Came.{Came, as_value, as_number, as_set, as_formula}
@@ -14,7 +15,6 @@ use Rattle.machine.specs.TellLaws.{not-value}
 use Rattle.machine.specs.TakeLaws.{refuses, top-phase}
 use Rattle.machine.specs.Entering.{Waiting}
 use Rattle.machine.specs.declared.Machine.{Machine}
-use Rattle.machine.specs.declared.Move.TheVariants.{Refused as Refuses}
 use Rattle.machine.specs.Frames.{
   Frame,
   apply,
@@ -116,25 +116,25 @@ misses (KeepFormula r c b) v e = absurd e
 misses (BitOf c i) v e = misfit_then _ (misfit_then _ (misfit_then _ e))
 
 module _ {s : Source} {mem : List ℕ} {m : Machine} {p : ℕ} (w : Waiting mem m p) where
-  refused : {z : Want} → want_at p ≡ z → ((R : Realm s) (o : Began) (v : Came) → Come R o mem m v → Misses z v) → Takes s mem mem m (Refuses 9 0)
+  refused : {z : Want} → want_at p ≡ z → ((R : Realm s) (o : Began) (v : Came) → Come R o mem m v → Misses z v) → Takes s mem mem m (Err (refusal 9 0))
   refused e q = record {
     turns = λ R x o out t.
         let v = t.top.came in
         refuses t.top (misses t.frame v (subst (λ (y : Want). Misses y v) (sym (ap want_at (top-phase t ∙ w.phase) ∙ e)) (q R o v t.top.come)));
   }
 
-  pub number-misfits : want_at p ≡ a_number → (m.mode ≡ is_number → ⊥) → Takes s mem mem m (Refuses 9 0)
+  pub number-misfits : want_at p ≡ a_number → (m.mode ≡ is_number → ⊥) → Takes s mem mem m (Err (refusal 9 0))
   number-misfits e l = refused e (λ R o v c. not-number R o mem m v c l)
 
-  pub set-misfits : want_at p ≡ a_set → (m.mode ≡ is_set → ⊥) → Takes s mem mem m (Refuses 9 0)
+  pub set-misfits : want_at p ≡ a_set → (m.mode ≡ is_set → ⊥) → Takes s mem mem m (Err (refusal 9 0))
   set-misfits e l = refused e (λ R o v c. not_set R o mem m v c l)
 
-  pub formula-misfits : want_at p ≡ a_formula → (m.mode ≡ is_nodes → ⊥) → Takes s mem mem m (Refuses 9 0)
+  pub formula-misfits : want_at p ≡ a_formula → (m.mode ≡ is_nodes → ⊥) → Takes s mem mem m (Err (refusal 9 0))
   formula-misfits e l = refused e (λ R o v c. not-formula R o mem m v c l)
 
-  pub value-misfits : want_at p ≡ a_value → m.mode ≡ is_nodes → Takes s mem mem m (Refuses 9 0)
+  pub value-misfits : want_at p ≡ a_value → m.mode ≡ is_nodes → Takes s mem mem m (Err (refusal 9 0))
   value-misfits e l = refused e (λ R o v c. not-value R o mem m v c l)
 
 -- a step that has the table leaves it
-pub misfits-still : {s : Source} {mem out : List ℕ} {m : Machine} → Takes s mem mem m (Refuses 9 0) → TakesToWrite s mem mem out out m (Refuses 9 0)
+pub misfits-still : {s : Source} {mem out : List ℕ} {m : Machine} → Takes s mem mem m (Err (refusal 9 0)) → TakesToWrite s mem mem out out m (Err (refusal 9 0))
 misfits-still {out = out} h = record { turns = λ R x o t. h.turns R x o out t }

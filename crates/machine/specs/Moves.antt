@@ -1,11 +1,11 @@
 -- The next states: a value comes, a formula was written, a frame is gone, a number or its refusal comes; and where the values end above a set that has come.
-use Rattle.std.specs.Prelude.{ℕ, ◌+◌, true, false, eqb}
-use Rattle.sets.specs.declared.Worked.{Worked}
+use Rattle.std.specs.Prelude.{ℕ, ◌+◌, true, false, eqb, Ok, Err}
+use Rattle.node.specs.Returned.{Returned}
+use Rattle.machine.specs.declared.Move.TheVariants.{Next}
+use Rattle.machine.specs.Stepped.{Stepped}
 use Rattle.machine.specs.Memory.{frame_words}
 use Rattle.machine.specs.Telling.{is_nodes, is_number}
 use Rattle.machine.specs.declared.Machine.{Machine}
-use Rattle.machine.specs.declared.Move.{Move}
-use Rattle.machine.specs.declared.Move.TheVariants.{Next, Refused as Refuses}
 
 -- the next state where a value comes; where a formula was written; where another entry is worked out
 abbrev pub came : Machine → (mode value from : ℕ) → Machine
@@ -20,9 +20,9 @@ abbrev pub popped : Machine → Machine
 popped m = record { mode = m.mode; value = m.value; from = m.from; scope = m.scope; depth = m.depth; top = m.top; frames = m.frames + frame_words; nodes = m.nodes }
 
 -- the move of a number worked out
-abbrev pub numbered : Machine → Worked → Move
-numbered m (Worked.Value n) = Next (came m is_number n 0)
-numbered m (Worked.Refused number place) = Refuses number place
+abbrev pub numbered : Machine → Returned ℕ → Stepped
+numbered m (Ok n) = Ok (Next (came m is_number n 0))
+numbered m (Err r) = Err r
 
 -- the values' end, with a set that stands on top of them
 abbrev pub above : Machine → ℕ

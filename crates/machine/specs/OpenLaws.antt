@@ -1,7 +1,9 @@
 -- An operator whose first operand is worked out under a new frame.
-use Rattle.std.specs.Prelude.{ℕ, ◌-◌, ◌≤◌, ◌<◌, true, false, List, [], ◌≡◌, refl, length}
+use Rattle.std.specs.Prelude.{ℕ, ◌-◌, ◌≤◌, ◌<◌, true, false, List, [], ◌≡◌, refl, length, Ok, Err}
 use Rattle.std.proofs.Common.{sym, ap, ◌∙◌, subst, arith}
 use Rattle.node.specs.Result.{Result, ◌>>=◌}
+use Rattle.machine.specs.declared.Move.TheVariants.{Next, Short}
+use Rattle.machine.specs.Stepped.{Stepped}
 use Rattle.language.specs.Limits.{max_elements}
 use Rattle.language.specs.Tree.{Expr}
 use Rattle.language.specs.Expansion.{Context}
@@ -21,11 +23,9 @@ use Rattle.machine.specs.EnterLaws.{ground_of, room-here, pushes}
 use Rattle.machine.specs.StackLaws.{stack_room}
 use Rattle.machine.specs.Openings.{open_words, opened, Pushed, Opened, Openable, body_words, enclosed, Enclosing, Enclosed, first_of}
 use Rattle.machine.specs.declared.Machine.{Machine}
-use Rattle.machine.specs.declared.Move.{Move}
-use Rattle.machine.specs.declared.Move.TheVariants.{Next, Short, Refused as Refuses}
 
 -- of another entry that is the same
-pub opened_as : {mem mem' : List ℕ} {m : Machine} {phase mode i j : ℕ} {r : Move} → i ≡ j → Opened mem mem' m phase mode i r → Opened mem mem' m phase mode j r
+pub opened_as : {mem mem' : List ℕ} {m : Machine} {phase mode i j : ℕ} {r : Stepped} → i ≡ j → Opened mem mem' m phase mode i r → Opened mem mem' m phase mode j r
 opened_as {mem} {mem'} {m} {phase} {mode} {r = r} e q = subst (λ (k : ℕ). Opened mem mem' m phase mode k r) e q
 
 -- the size of the middle operand of three: the last takes x entries
@@ -54,7 +54,7 @@ module _ {s : Source} {R : Realm s} {mem out : List ℕ} {m : Machine} {x : Resu
     pub same : works h.aim h.context h.tree ≡ (works a h.context e >>= apply F)
 
   module _ {F : Frame} {phase : ℕ} {a : Aim} {e : Expr} {j : ℕ} (p : Opening F phase a e j) {mem' : List ℕ} where
-    pushed : Pushed mem mem' m phase (mode_of a) j (opened m (mode_of a) j) → Turned R mem mem' out out m x o (Next (opened m (mode_of a) j))
+    pushed : Pushed mem mem' m phase (mode_of a) j (opened m (mode_of a) j) → Turned R mem mem' out out m x o (Ok (Next (opened m (mode_of a) j)))
     pushed q =
         let ro = q.room in
         let be = p.below in
@@ -86,12 +86,12 @@ module _ {s : Source} {R : Realm s} {mem out : List ℕ} {m : Machine} {x : Resu
           same = p.same;
         })
 
-    pub opens : (r : Move) → Opened mem mem' m phase (mode_of a) j r → Turned R mem mem' out out m x o r
-    opens (Next n) q =
+    pub opens : (r : Stepped) → Opened mem mem' m phase (mode_of a) j r → Turned R mem mem' out out m x o r
+    opens (Ok (Next n)) q =
         let g = q.opens in
-        subst (λ (k : Machine). Turned R mem mem' out out m x o (Next k)) (sym g.next) (pushed (record { framed = g.framed; next = refl; room = g.room }))
-    opens (Refuses number place) q = absurd q.opens
-    opens Short q =
+        subst (λ (k : Machine). Turned R mem mem' out out m x o (Ok (Next k))) (sym g.next) (pushed (record { framed = g.framed; next = refl; room = g.room }))
+    opens (Err r) q = absurd q.opens
+    opens (Ok Short) q =
         let g = q.opens in
         let d = h.at.mode in
         let f = mode_few h.aim in
@@ -110,7 +110,7 @@ module _ {s : Source} {R : Realm s} {mem out : List ℕ} {m : Machine} {x : Resu
     pub same : works h.aim h.context h.tree ≡ (works a c e >>= apply F)
 
   module _ {F : Frame} {phase at r : ℕ} {a : Aim} {c : Context} {e : Expr} {j : ℕ} (p : Entering F phase at r a c e j) {mem' : List ℕ} where
-    enters : Enclosing mem mem' m phase at r (mode_of a) j (enclosed m (mode_of a) j) → Turned R mem mem' out out m x o (Next (enclosed m (mode_of a) j))
+    enters : Enclosing mem mem' m phase at r (mode_of a) j (enclosed m (mode_of a) j) → Turned R mem mem' out out m x o (Ok (Next (enclosed m (mode_of a) j)))
     enters q =
         let ro = q.room in
         let be = p.below in
@@ -143,12 +143,12 @@ module _ {s : Source} {R : Realm s} {mem out : List ℕ} {m : Machine} {x : Resu
           same = p.same;
         })
 
-    pub encloses : (u : Move) → Enclosed mem mem' m phase at r (mode_of a) j u → Turned R mem mem' out out m x o u
-    encloses (Next n) q =
+    pub encloses : (u : Stepped) → Enclosed mem mem' m phase at r (mode_of a) j u → Turned R mem mem' out out m x o u
+    encloses (Ok (Next n)) q =
         let g = q.encloses in
-        subst (λ (k : Machine). Turned R mem mem' out out m x o (Next k)) (sym g.next) (enters (record { framed = g.framed; next = refl; room = g.room }))
-    encloses (Refuses number place) q = absurd q.encloses
-    encloses Short q =
+        subst (λ (k : Machine). Turned R mem mem' out out m x o (Ok (Next k))) (sym g.next) (enters (record { framed = g.framed; next = refl; room = g.room }))
+    encloses (Err r) q = absurd q.encloses
+    encloses (Ok Short) q =
         let g = q.encloses in
         let d = h.at.mode in
         let f = mode_few h.aim in

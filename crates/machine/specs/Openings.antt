@@ -1,5 +1,7 @@
 -- An operator's frame is pushed, if there is room for it; it is written anew, where one operand has come and the next is worked out.
-use Rattle.std.specs.Prelude.{ℕ, ◌+◌, ◌-◌, ◌≤◌, ◌<◌, List, ◌≡◌, length, get_or}
+use Rattle.std.specs.Prelude.{ℕ, ◌+◌, ◌-◌, ◌≤◌, ◌<◌, List, ◌≡◌, length, get_or, Ok, Err}
+use Rattle.machine.specs.declared.Move.TheVariants.{Next, Short}
+use Rattle.machine.specs.Stepped.{Stepped}
 use Rattle.language.specs.Limits.{max_tokens, work_bytes}
 use Rattle.operands.specs.Entries.{size_at}
 use Rattle.machine.specs.Fields.{entry_field}
@@ -7,8 +9,6 @@ use Rattle.machine.specs.Memory.{frame_words, spare, reserve, Framed}
 use Rattle.machine.specs.Moves.{came}
 use Rattle.machine.specs.declared.Words.{Words}
 use Rattle.machine.specs.declared.Machine.{Machine}
-use Rattle.machine.specs.declared.Move.{Move}
-use Rattle.machine.specs.declared.Move.TheVariants.{Next, Short, Refused as Refuses}
 
 -- a frame that holds nothing yet
 abbrev pub open_words : Machine → ℕ → Words
@@ -28,12 +28,12 @@ pub record Lacks (mem mem' : List ℕ) (m : Machine) : Type 0 where
   pub same : mem' ≡ mem
   pub short : m.frames < m.top + (frame_words + reserve + spare)
 
-abbrev pub Opens : List ℕ → List ℕ → Machine → ℕ → ℕ → ℕ → Move → Type 0
-Opens mem mem' m phase mode j (Next n) = Pushed mem mem' m phase mode j n
-Opens mem mem' m phase mode j (Refuses number place) = ⊥
-Opens mem mem' m phase mode j Short = Lacks mem mem' m
+abbrev pub Opens : List ℕ → List ℕ → Machine → ℕ → ℕ → ℕ → Stepped → Type 0
+Opens mem mem' m phase mode j (Ok (Next n)) = Pushed mem mem' m phase mode j n
+Opens mem mem' m phase mode j (Err r) = ⊥
+Opens mem mem' m phase mode j (Ok Short) = Lacks mem mem' m
 
-pub record Opened (mem mem' : List ℕ) (m : Machine) (phase mode j : ℕ) (r : Move) : Type 0 where
+pub record Opened (mem mem' : List ℕ) (m : Machine) (phase mode j : ℕ) (r : Stepped) : Type 0 where
   pub opens : Opens mem mem' m phase mode j r
 
 -- room in the memory for a frame below the others, and words that can be numbered
@@ -56,12 +56,12 @@ pub record Enclosing (mem mem' : List ℕ) (m : Machine) (phase at r mode j : �
   pub next : n ≡ enclosed m mode j
   pub room : m.top + (frame_words + reserve + spare) ≤ m.frames
 
-abbrev pub Encloses : List ℕ → List ℕ → Machine → (phase at r mode j : ℕ) → Move → Type 0
-Encloses mem mem' m phase at r mode j (Next n) = Enclosing mem mem' m phase at r mode j n
-Encloses mem mem' m phase at r mode j (Refuses number place) = ⊥
-Encloses mem mem' m phase at r mode j Short = Lacks mem mem' m
+abbrev pub Encloses : List ℕ → List ℕ → Machine → (phase at r mode j : ℕ) → Stepped → Type 0
+Encloses mem mem' m phase at r mode j (Ok (Next n)) = Enclosing mem mem' m phase at r mode j n
+Encloses mem mem' m phase at r mode j (Err w) = ⊥
+Encloses mem mem' m phase at r mode j (Ok Short) = Lacks mem mem' m
 
-pub record Enclosed (mem mem' : List ℕ) (m : Machine) (phase at r mode j : ℕ) (u : Move) : Type 0 where
+pub record Enclosed (mem mem' : List ℕ) (m : Machine) (phase at r mode j : ℕ) (u : Stepped) : Type 0 where
   pub encloses : Encloses mem mem' m phase at r mode j u
 
 -- the first operand of the operator at entry k: some entries stand between it and the last one, whose entries end before k

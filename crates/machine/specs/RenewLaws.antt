@@ -1,7 +1,8 @@
 -- A frame that holds no words takes what has come, is written anew and keeps it, while the next operand is worked out.
-use Rattle.std.specs.Prelude.{ℕ, ◌+◌, ◌-◌, ◌≤◌, ◌<◌, false, List, [], ◌++◌, ◌≡◌, refl, length}
+use Rattle.std.specs.Prelude.{ℕ, ◌+◌, ◌-◌, ◌≤◌, ◌<◌, false, List, [], ◌++◌, ◌≡◌, refl, length, Ok}
 use Rattle.std.proofs.Common.{sym, ap, ◌∙◌, subst, arith, add-zero}
 use Rattle.node.specs.Result.{Result, ◌>>=◌}
+use Rattle.machine.specs.declared.Move.TheVariants.{Next}
 use Rattle.language.specs.Limits.{max_tokens, work_bytes}
 use Rattle.language.specs.Tree.{Expr}
 use Rattle.language.specs.Expansion.{Context}
@@ -24,7 +25,6 @@ use Rattle.machine.specs.OperandLaws.{topped-entry}
 use Rattle.machine.specs.Moves.{came}
 use Rattle.machine.specs.Openings.{first_of, Preceded, entry_at, kept_words, Renewed, RenewedBefore, Renewable}
 use Rattle.machine.specs.declared.Machine.{Machine}
-use Rattle.machine.specs.declared.Move.TheVariants.{Next}
 
 pub topped_renewable : {s : Source} {mem : List ℕ} {m : Machine} → Topped s mem m → Renewable mem m
 topped_renewable t =
@@ -70,7 +70,7 @@ module _ {s : Source} {R : Realm s} {mem out : List ℕ} {m : Machine} {x : Resu
 
   module _ {G : Frame} {at value other : ℕ} {a : Aim} {c : Context} {e : Expr} {mem' : List ℕ} where
     follows : {j : ℕ} {u : Machine} → Framed mem mem' m.frames (kept_words m (phase G) (entry_at mem m) at value other) → Following G at value other a c e j → j ≤ (words h).entry - 1
-        → u ≡ came m (mode_of a) j 0 → Turned R mem mem' out out m x o (Next u)
+        → u ≡ came m (mode_of a) j 0 → Turned R mem mem' out out m x o (Ok (Next u))
     follows q z l eu =
         let new = kept_words m (phase G) (words h).entry at value other in
         let f = z.held-nothing in
@@ -84,7 +84,7 @@ module _ {s : Source} {R : Realm s} {mem out : List ℕ} {m : Machine} {x : Resu
         let ft = flat-top h f in
         let fs = flat_scope h f in
         let fd = flat-depth h f in
-        subst (λ (y : Machine). Turned R mem mem' out out m x o (Next y)) (sym eu)
+        subst (λ (y : Machine). Turned R mem mem' out out m x o (Ok (Next y))) (sym eu)
         (goes h {G = G} {a = a} {c = c} {e = e} {mem₁ = mem} (record {
           new = new;
           framed = subst (λ (k : ℕ). Framed mem mem' m.frames (kept_words m (phase G) k at value other)) (entry_word_lem h) q;
@@ -123,10 +123,10 @@ module _ {s : Source} {R : Realm s} {mem out : List ℕ} {m : Machine} {x : Resu
         }))
 
     -- the last operand
-    pub follows-last : {n : Machine} → Renewed mem mem' m (phase G) at value other (mode_of a) n → Following G at value other a c e ((words h).entry - 1) → Turned R mem mem' out out m x o (Next n)
+    pub follows-last : {n : Machine} → Renewed mem mem' m (phase G) at value other (mode_of a) n → Following G at value other a c e ((words h).entry - 1) → Turned R mem mem' out out m x o (Ok (Next n))
     follows-last q z = follows q.framed z (omega arith) (q.next ∙ ap (λ (k : ℕ). came m (mode_of a) (k - 1) 0) (entry_word_lem h))
 
   -- the one before it
   pub follows_before : {G : Frame} {value : ℕ} {a : Aim} {c : Context} {e : Expr} {mem' : List ℕ} {n : Machine} → RenewedBefore s.work mem mem' m (phase G) value (mode_of a) n
-      → Following G 0 value 0 a c e (first_of s.work (words h).entry 0) → Turned R mem mem' out out m x o (Next n)
+      → Following G 0 value 0 a c e (first_of s.work (words h).entry 0) → Turned R mem mem' out out m x o (Ok (Next n))
   follows_before {a = a} q y = follows q.framed y (omega arith) (q.next ∙ ap (λ (k : ℕ). came m (mode_of a) (first_of s.work k 0) 0) (entry_word_lem h))

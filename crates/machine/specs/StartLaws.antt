@@ -2,6 +2,7 @@
 use Rattle.std.specs.Prelude.{ℕ, ◌+◌, ◌-◌, ◌≤◌, ◌<◌, false, List, ◌≡◌, length}
 use Rattle.std.proofs.Common.{arith}
 use Rattle.node.specs.Result.{Result, ◌>>=◌}
+use Rattle.machine.specs.Stepped.{Stepped}
 use Rattle.language.specs.Limits.{max_elements}
 use Rattle.language.specs.Tree.{Expr}
 use Rattle.operands.specs.Entries.{size_at}
@@ -19,7 +20,6 @@ use Rattle.machine.specs.EnterLaws.{ground_of, entry_few}
 use Rattle.machine.specs.Openings.{open_words, Opened, Openable, first_of, Preceded, first_of_three, PrecededByThree}
 use Rattle.machine.specs.OpenLaws.{ready_open, opens}
 use Rattle.machine.specs.declared.Machine.{Machine}
-use Rattle.machine.specs.declared.Move.{Move}
 
 -- its frame, which waits for the first operand, at entry j, and makes of it what the entry comes to; and that all operands stand before the entry
 pub record Starting {s : Source} {R : Realm s} {mem out : List ℕ} {m : Machine} {x : Result Came} {o : Began} (h : Entered R mem out m x o) (phase j : ℕ) (Before : Type 0) (a : Aim) : Type 0 where
@@ -45,7 +45,7 @@ module _ {s : Source} {mem : List ℕ} {m : Machine} {phase j : ℕ} {Before : T
   pub starts-inside : Ready s mem m → Before
   starts-inside r = (b.starting r.realm r.answer r.began r.table (entered r.state b.entry)).inside
 
-  starts : (Before → j < m.value) → {mem' : List ℕ} {r : Move} → Opened mem mem' m phase (mode_of a) j r → Steps s mem mem' m r
+  starts : (Before → j < m.value) → {mem' : List ℕ} {r : Stepped} → Opened mem mem' m phase (mode_of a) j r → Steps s mem mem' m r
   starts l {mem'} {r} q = record {
     turns = λ R x o out h.
         let n = entered h b.entry in
@@ -66,7 +66,7 @@ module _ {s : Source} {mem : List ℕ} {m : Machine} {phase j : ℕ} {Before : T
 abbrev pub StartsOne : (s : Source) → List ℕ → (m : Machine) → ℕ → Aim → Type 0
 StartsOne s mem m phase a = Starts s mem m phase (m.value - 1) (1 ≤ m.value) a
 
-pub one-steps : {s : Source} {mem mem' : List ℕ} {m : Machine} {phase : ℕ} {a : Aim} {r : Move} → StartsOne s mem m phase a → Opened mem mem' m phase (mode_of a) (m.value - 1) r → Steps s mem mem' m r
+pub one-steps : {s : Source} {mem mem' : List ℕ} {m : Machine} {phase : ℕ} {a : Aim} {r : Stepped} → StartsOne s mem m phase a → Opened mem mem' m phase (mode_of a) (m.value - 1) r → Steps s mem mem' m r
 one-steps b q = starts b (λ i. omega arith) q
 
 -- two, and entries between them
@@ -77,7 +77,7 @@ module _ {s : Source} {mem : List ℕ} {m : Machine} {phase : ℕ} {a : Aim} (be
   pub two_open : Ready s mem m → Openable (length mem) m × Preceded s.work m.value between
   two_open r = (starts-ready b r, record { few = entry_few (entered r.state b.entry); lent = r.lent.work; inside = starts-inside b r })
 
-  pub two_steps : {mem' : List ℕ} {r : Move} → Opened mem mem' m phase (mode_of a) (first_of s.work m.value between) r → Steps s mem mem' m r
+  pub two_steps : {mem' : List ℕ} {r : Stepped} → Opened mem mem' m phase (mode_of a) (first_of s.work m.value between) r → Steps s mem mem' m r
   two_steps q = starts b (λ i. omega arith) q
 
 -- three
@@ -89,5 +89,5 @@ module _ {s : Source} {mem : List ℕ} {m : Machine} {phase : ℕ} {a : Aim} (b 
   pub three_open : Ready s mem m → Openable (length mem) m × PrecededByThree s.work m.value
   three_open r = (starts-ready b r, record { few = entry_few (entered r.state b.entry); lent = r.lent.work; inside = starts-inside b r })
 
-  pub three-steps : {mem' : List ℕ} {r : Move} → Opened mem mem' m phase (mode_of a) (first_of_three s.work m.value) r → Steps s mem mem' m r
+  pub three-steps : {mem' : List ℕ} {r : Stepped} → Opened mem mem' m phase (mode_of a) (first_of_three s.work m.value) r → Steps s mem mem' m r
   three-steps q = starts b (λ i. omega arith) q

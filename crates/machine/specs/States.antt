@@ -1,7 +1,9 @@
 -- The machine's state: its frames stand in the memory, and what they make of the part that is worked out now is the answer. What a step does to it.
-use Rattle.std.specs.Prelude.{ℕ, suc, ◌+◌, ◌≤◌, ◌<◌, ◌^◌, List, [], ◌∷◌, ◌++◌, ◌≡◌, length, get_or, drop}
+use Rattle.std.specs.Prelude.{ℕ, suc, ◌+◌, ◌≤◌, ◌<◌, ◌^◌, List, [], ◌∷◌, ◌++◌, ◌≡◌, length, get_or, drop, Ok, Err}
 use Rattle.node.specs.Limits.{max_nodes}
 use Rattle.node.specs.Result.{Result, Done, Refused}
+use Rattle.machine.specs.declared.Move.TheVariants.{Next, Short}
+use Rattle.machine.specs.Stepped.{Stepped}
 use Rattle.language.specs.Limits.{max_tokens, work_bytes}
 use Rattle.language.specs.Tree.{Expr}
 use Rattle.language.specs.Values.{Value, Number, Set, Logic, Bus, Unsized, Choice}
@@ -18,8 +20,6 @@ use Rattle.machine.specs.Table.{Began, Laid, end_of}
 use Rattle.machine.specs.Cost.{effort, costs}
 use Rattle.machine.specs.Stack.{Ground, FrameAt, Stack}
 use Rattle.machine.specs.declared.Machine.{Machine}
-use Rattle.machine.specs.declared.Move.{Move}
-use Rattle.machine.specs.declared.Move.TheVariants.{Next, Short, Refused as Refuses}
 
 -- an expression is worked out, or something has come
 pub data Now : Type 0 where
@@ -111,12 +111,12 @@ pub record Parted (mem mem' out out' : List ℕ) (m : Machine) : Type 0 where
   pub mode : m.mode ≤ mode_of Expand
   pub short : m.frames < m.top + (frame_words + reserve + spare + m.value)
 
-abbrev pub After : {s : Source} → Realm s → (mem mem' out out' : List ℕ) → Machine → Result Came → Began → Move → Type 0
-After R mem mem' out out' m x o (Next n) = Went R mem mem' out' m n x o
-After R mem mem' out out' m x o (Refuses number place) = x ≡ Refused number place
-After R mem mem' out out' m x o Short = Parted mem mem' out out' m
+abbrev pub After : {s : Source} → Realm s → (mem mem' out out' : List ℕ) → Machine → Result Came → Began → Stepped → Type 0
+After R mem mem' out out' m x o (Ok (Next n)) = Went R mem mem' out' m n x o
+After R mem mem' out out' m x o (Err r) = x ≡ Refused r.number r.place
+After R mem mem' out out' m x o (Ok Short) = Parted mem mem' out out' m
 
-pub record Turned {s : Source} (R : Realm s) (mem mem' out out' : List ℕ) (m : Machine) (x : Result Came) (o : Began) (r : Move) : Type 0 where
+pub record Turned {s : Source} (R : Realm s) (mem mem' out out' : List ℕ) (m : Machine) (x : Result Came) (o : Began) (r : Stepped) : Type 0 where
   pub len : length mem' ≡ length mem
   pub after : After R mem mem' out out' m x o r
 
@@ -129,7 +129,7 @@ pub record Ready (s : Source) (mem : List ℕ) (m : Machine) : Type 0 where
   pub table : List ℕ
   pub state : State realm mem table m answer began
 
-pub record Steps (s : Source) (mem mem' : List ℕ) (m : Machine) (r : Move) : Type 0 where
+pub record Steps (s : Source) (mem mem' : List ℕ) (m : Machine) (r : Stepped) : Type 0 where
   pub turns : (R : Realm s) (x : Result Came) (o : Began) (out : List ℕ) → State R mem out m x o → Turned R mem mem' out out m x o r
 
 pub record ReadyToWrite (s : Source) (mem out : List ℕ) (m : Machine) : Type 0 where
@@ -139,7 +139,7 @@ pub record ReadyToWrite (s : Source) (mem out : List ℕ) (m : Machine) : Type 0
   pub began : Began
   pub state : State realm mem out m answer began
 
-pub record Writes (s : Source) (mem mem' out out' : List ℕ) (m : Machine) (r : Move) : Type 0 where
+pub record Writes (s : Source) (mem mem' out out' : List ℕ) (m : Machine) (r : Stepped) : Type 0 where
   pub turns : (R : Realm s) (x : Result Came) (o : Began) → State R mem out m x o → Turned R mem mem' out out' m x o r
 
 -- something has come, and the frame F takes it
@@ -169,7 +169,7 @@ pub record Topped (s : Source) (mem : List ℕ) (m : Machine) : Type 0 where
   pub table : List ℕ
   pub top : Top realm mem table m answer began
 
-pub record Takes (s : Source) (mem mem' : List ℕ) (m : Machine) (r : Move) : Type 0 where
+pub record Takes (s : Source) (mem mem' : List ℕ) (m : Machine) (r : Stepped) : Type 0 where
   pub turns : (R : Realm s) (x : Result Came) (o : Began) (out : List ℕ) → Top R mem out m x o → Turned R mem mem' out out m x o r
 
 pub record ToppedToWrite (s : Source) (mem out : List ℕ) (m : Machine) : Type 0 where
@@ -179,7 +179,7 @@ pub record ToppedToWrite (s : Source) (mem out : List ℕ) (m : Machine) : Type 
   pub began : Began
   pub top : Top realm mem out m answer began
 
-pub record TakesToWrite (s : Source) (mem mem' out out' : List ℕ) (m : Machine) (r : Move) : Type 0 where
+pub record TakesToWrite (s : Source) (mem mem' out out' : List ℕ) (m : Machine) (r : Stepped) : Type 0 where
   pub turns : (R : Realm s) (x : Result Came) (o : Began) → Top R mem out m x o → Turned R mem mem' out out' m x o r
 
 -- the last frame's phase

@@ -1,9 +1,11 @@
 -- A frame takes what has come: it is popped, or written anew while another operand is worked out. All steps go by these two laws.
-use Rattle.std.specs.Prelude.{ℕ, suc, ◌+◌, ◌≤◌, ◌<◌, ◌*◌, true, List, ◌∷◌, ◌++◌, ◌≡◌, refl, length, get_or, drop}
+use Rattle.std.specs.Prelude.{ℕ, suc, ◌+◌, ◌≤◌, ◌<◌, ◌*◌, true, List, ◌∷◌, ◌++◌, ◌≡◌, refl, length, get_or, drop, Ok, Err}
 use Rattle.std.proofs.Math.Path.{sym, ap, subst}
 use Rattle.std.proofs.Common.{◌∙◌, arith, add-zero}
 use Rattle.node.specs.Limits.{max_nodes}
 use Rattle.node.specs.Result.{Result, Done, Refused, ◌>>=◌}
+use Rattle.node.specs.Returned.{refusal}
+use Rattle.machine.specs.declared.Move.TheVariants.{Next}
 use Rattle.language.specs.Tree.{Expr}
 use Rattle.language.specs.Expansion.{Context}
 use Rattle.language.specs.Limits.{max_names}
@@ -27,7 +29,6 @@ use Rattle.machine.specs.StateLaws.{come_mode, mode_few}
 use Rattle.machine.specs.EnterLaws.{costs-frame}
 use Rattle.machine.specs.declared.Words.{Words}
 use Rattle.machine.specs.declared.Machine.{Machine}
-use Rattle.machine.specs.declared.Move.TheVariants.{Next, Refused as Refuses}
 
 module _ {s : Source} {R : Realm s} {mem out : List ℕ} {m : Machine} {x : Result Came} {o : Began} {F : Frame} (h : TopOf R mem out m x o F) where
   abbrev pub words : Words
@@ -78,11 +79,11 @@ module _ {s : Source} {R : Realm s} {mem out : List ℕ} {m : Machine} {x : Resu
   taken = means_take x F h.rest h.came h.same
 
   -- the answer is a refusal
-  pub refuses : {number place : ℕ} → apply F h.came ≡ Refused number place → Turned R mem mem out out m x o (Refuses number place)
+  pub refuses : {number place : ℕ} → apply F h.came ≡ Refused number place → Turned R mem mem out out m x o (Err (refusal number place))
   refuses {number} {place} e = record { len = refl; after = means_refused x h.rest number place (means_as x h.rest e taken) }
 
   -- whatever was written before it is known
-  pub refuses-late : {number place : ℕ} {mem' out' : List ℕ} → length mem' ≡ length mem → apply F h.came ≡ Refused number place → Turned R mem mem' out out' m x o (Refuses number place)
+  pub refuses-late : {number place : ℕ} {mem' out' : List ℕ} → length mem' ≡ length mem → apply F h.came ≡ Refused number place → Turned R mem mem' out out' m x o (Err (refusal number place))
   refuses-late {number} {place} l e = record { len = l; after = means_refused x h.rest number place (means_as x h.rest e taken) }
 
   -- the frame is popped
@@ -99,7 +100,7 @@ module _ {s : Source} {R : Realm s} {mem out : List ℕ} {m : Machine} {x : Resu
     pub noted : Noted R o.regions o.index mem'
     pub lasting : Lasting R.W mem' out' n.nodes
 
-  pub pops : {v : Came} {mem' out' : List ℕ} {n : Machine} → Popping v mem' out' n → Turned R mem mem' out out' m x o (Next n)
+  pub pops : {v : Came} {mem' out' : List ℕ} {n : Machine} → Popping v mem' out' n → Turned R mem mem' out out' m x o (Ok (Next n))
   pops {v} {mem'} {out'} {n} p =
       let c = top-cost in
       let w = times_some (turns words.phase words.count) words.entry in
@@ -167,7 +168,7 @@ module _ {s : Source} {R : Realm s} {mem out : List ℕ} {m : Machine} {x : Resu
     pub kept : Kept G (works a c e)
     pub same : apply F h.came ≡ (works a c e >>= apply G)
 
-  pub goes : {G : Frame} {a : Aim} {c : Context} {e : Expr} {mem₁ mem' out' : List ℕ} {n : Machine} → Renewal G a c e mem₁ mem' out' n → Turned R mem mem' out out' m x o (Next n)
+  pub goes : {G : Frame} {a : Aim} {c : Context} {e : Expr} {mem₁ mem' out' : List ℕ} {n : Machine} → Renewal G a c e mem₁ mem' out' n → Turned R mem mem' out out' m x o (Ok (Next n))
   unfolding forms_of
   goes {G} {a} {c} {e} {mem₁} {mem'} {out'} {n} r =
       let f = r.framed in

@@ -7,17 +7,15 @@ pub mod fields;
 pub mod modes;
 pub mod phases;
 
-ghost use Rattle.std.specs.Prelude.{◌≡◌, ℕ, suc, min, ◌+◌, ◌≤◌, ◌<◌, ◌^◌, length};
+ghost use Rattle.std.specs.Prelude.{◌≡◌, suc, min, ◌+◌, ◌≤◌, ◌<◌, ◌^◌, length};
 ghost use Rattle.node.specs.Limits.{max_nodes};
-ghost use Rattle.sets.specs.declared.Worked.{Worked as NotWorked};
-ghost use Rattle.machine.specs.declared.Move.{Move as NotMoved};
 ghost use Rattle.machine.specs.Memory.{frame_words, Framed};
 ghost use Rattle.machine.specs.Moves.{came as came', wrote as wrote', popped as popped', numbered as numbered', above as above'};
 ghost use Rattle.machine.specs.Openings.{Openable, Opened, Enclosed, Preceded, first_of, PrecededByThree, first_of_three, entry_at, Renewable, Renewed, RenewedBefore};
 
 use language::limits;
+use node::Refusal;
 use operands::entry::size_at;
-use sets::Worked;
 use writing::TOO_MANY;
 
 // What to do next: work out the entry `value`, as a value (mode 0) or as a formula (mode 1); or go on with what has come (specs/Telling). Slots from `scope` up to
@@ -34,13 +32,15 @@ pub struct Machine {
     pub nodes: usize,
 }
 
-// What a step comes to: the next state; a refusal with its number and place; or that there is no room for the entry, and nothing was done.
+// What a step comes to: the next state, or that there is no room for the entry, and nothing was done.
 #[derive(Clone, Copy)]
 pub enum Move {
     Next(Machine),
-    Refused(u32, u32),
     Short,
 }
+
+// What a step returns: a move or a refusal.
+pub type Stepped = Result<Move, Refusal>;
 
 // The seven words of a frame: what it waits for, its entry, where the values go back to; the address and the number of the words that it holds; two numbers.
 #[derive(Clone, Copy)]
@@ -87,20 +87,7 @@ pub fn frame(memory: &mut [u32], at: usize, w: Words)
 pub fn capped(n: usize) -> usize
     ensures { result ≡ min n (suc max_nodes) }
 {
-    if n < TOO_MANY {
-        return n;
-    }
-    TOO_MANY
-}
-
-// A refusal handed up.
-pub fn unworked(worked: Worked) -> Move
-    ensures { (n p : ℕ) → worked ≡ NotWorked.Refused n p → result ≡ NotMoved.Refused n p }
-{
-    let Worked::Refused(number, place) = worked else {
-        return Move::Refused(0, 0);
-    };
-    Move::Refused(number, place)
+    n.min(TOO_MANY)
 }
 
 impl Machine {
@@ -112,11 +99,7 @@ impl Machine {
             mode,
             value,
             from,
-            scope: self.scope,
-            depth: self.depth,
-            top: self.top,
-            frames: self.frames,
-            nodes: self.nodes,
+            ..self
         }
     }
 
@@ -128,11 +111,8 @@ impl Machine {
             mode: modes::NODES,
             value: 0,
             from: 0,
-            scope: self.scope,
-            depth: self.depth,
-            top: self.top,
-            frames: self.frames,
             nodes,
+            ..self
         }
     }
 
@@ -142,25 +122,17 @@ impl Machine {
         ensures { result ≡ popped' self }
     {
         Machine {
-            mode: self.mode,
-            value: self.value,
-            from: self.from,
-            scope: self.scope,
-            depth: self.depth,
-            top: self.top,
             frames: self.frames + FRAME,
-            nodes: self.nodes,
+            ..self
         }
     }
 
     // A number has come, or a refusal.
-    pub fn numbered(self, w: Worked) -> Move
+    pub fn numbered(self, w: Result<u32, Refusal>) -> Stepped
         ensures { result ≡ numbered' self w }
     {
-        let Worked::Value(n) = w else {
-            return unworked(w);
-        };
-        Move::Next(self.came(modes::NUMBER, n, 0))
+        let n = w?;
+        Ok(Move::Next(self.came(modes::NUMBER, n, 0)))
     }
 
     // Where the values end, with a set that stands on top of them.
@@ -175,14 +147,14 @@ impl Machine {
     }
 
     // An operator's frame is pushed, if there is room, and entry j is worked out, as the mode says.
-    pub fn push(self, memory: &mut [u32], phase: u32, mode: u32, j: u32) -> Move
+    pub fn push(self, memory: &mut [u32], phase: u32, mode: u32, j: u32) -> Stepped
         requires { Openable (length memory.old) self }
         ensures { Opened memory.old memory.new self phase mode j result }
     {
         let top = self.top;
         let frames = self.frames;
         if frames - top < ROOM {
-            return Move::Short;
+            return Ok(Move::Short);
         }
         let at = frames - FRAME;
         frame(
@@ -198,16 +170,13 @@ impl Machine {
                 other: 0,
             },
         );
-        Move::Next(Machine {
+        Ok(Move::Next(Machine {
             mode,
             value: j,
             from: 0,
-            scope: self.scope,
-            depth: self.depth,
-            top,
             frames: at,
-            nodes: self.nodes,
-        })
+            ..self
+        }))
     }
 
     // An operator's frame is pushed, if there is room, and its first operand is worked out; as many entries as said stand between that one and the last.
@@ -218,7 +187,7 @@ impl Machine {
         phase: u32,
         mode: u32,
         between: usize,
-    ) -> Move
+    ) -> Stepped
         requires openable { Openable (length memory.old) self }
         requires preceded { Preceded work.now self.value between }
         ensures { Opened memory.old memory.new self phase mode (first_of work.now self.value between) result }
@@ -229,7 +198,13 @@ impl Machine {
     }
 
     // An operator's frame is pushed, if there is room, and the first of its three operands is worked out.
-    pub fn push_first_of_three(self, work: &[u8], memory: &mut [u32], phase: u32, mode: u32) -> Move
+    pub fn push_first_of_three(
+        self,
+        work: &[u8],
+        memory: &mut [u32],
+        phase: u32,
+        mode: u32,
+    ) -> Stepped
         requires openable { Openable (length memory.old) self }
         requires preceded_by_three { PrecededByThree work.now self.value }
         ensures { Opened memory.old memory.new self phase mode (first_of_three work.now self.value) result }
@@ -298,7 +273,7 @@ impl Machine {
         r: usize,
         mode: u32,
         j: u32,
-    ) -> Move
+    ) -> Stepped
         requires openable { Openable (length memory.old) self }
         requires kept_bound { (kept < 2 ^ 32) × (r < 2 ^ 32) }
         ensures { Enclosed memory.old memory.new self phase kept r mode j result }
@@ -306,10 +281,9 @@ impl Machine {
         let top = self.top;
         let frames = self.frames;
         if frames - top < ROOM {
-            return Move::Short;
+            return Ok(Move::Short);
         }
         let at = frames - FRAME;
-        let depth = self.depth;
         frame(
             memory,
             at,
@@ -323,15 +297,13 @@ impl Machine {
                 other: r,
             },
         );
-        Move::Next(Machine {
+        Ok(Move::Next(Machine {
             mode,
             value: j,
             from: 0,
-            scope: depth,
-            depth,
-            top,
+            scope: self.depth,
             frames: at,
-            nodes: self.nodes,
-        })
+            ..self
+        }))
     }
 }

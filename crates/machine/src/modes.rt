@@ -2,6 +2,7 @@
 ghost use Rattle.std.specs.Prelude.{◌≡◌};
 ghost use Rattle.machine.specs.Modes.{modes as modes'};
 
+// Numbers and no enum: Modes, Telling and the steps' clauses name the mode of a state by its number.
 pub const EVALUATE: u32 = 0;
 
 pub const EXPAND: u32 = 1;

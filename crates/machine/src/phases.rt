@@ -2,6 +2,7 @@
 ghost use Rattle.std.specs.Prelude.{◌≡◌};
 ghost use Rattle.machine.specs.Phases.{phases as phases'};
 
+// Numbers and no enum: a frame's word in the lent memory holds them, and phases in a row are tested by their ends.
 pub const MEASURED: u32 = 0;
 
 pub const WIDTH: u32 = 1;

@@ -1,15 +1,15 @@
 -- The runs of `number_of` and `formula_of`: how they begin, and what their answers say.
-use Rattle.std.specs.Prelude.{ℕ, suc, ◌≤◌, ◌<◌, List, [], ◌≡◌, length, get_or, set}
+use Rattle.std.specs.Prelude.{ℕ, suc, ◌≤◌, ◌<◌, List, [], ◌≡◌, length, get_or, set, Err, Ok}
 use Rattle.std.proofs.Math.Path.{refl, sym, ap}
 use Rattle.std.proofs.Common.{◌∙◌, subst, length-set, get_or-set_same}
 use native.Mathlib.Omega.{arith}
 use Rattle.node.specs.Limits.{max_nodes}
 use Rattle.node.specs.Ltl.{Formula}
 use Rattle.node.specs.Result.{Result, Done, Refused, ◌>>=◌}
+use Rattle.node.specs.Returned.{Returned, refusal}
 use Rattle.language.specs.Tree.{Expr}
 use Rattle.language.specs.Values.{Value, Number, Set, Logic, Bus, Unsized, Choice, number, value}
 use Rattle.language.specs.Expansion.{Context, expansion}
-use Rattle.sets.specs.declared.Worked.{Worked}
 use Rattle.operands.specs.Working.{Source, TellsNumber}
 use Rattle.machine.specs.Came.{Aim, Evaluate, Expand, Came, Worth, Nodes, worth, nodes, works}
 use Rattle.machine.specs.Memory.{slots_word}
@@ -23,10 +23,6 @@ use Rattle.machine.specs.declared.Machine.{Machine}
 use Rattle.machine_run.specs.Running.{regions_of, Room, Given, Runnable, NumberTold, FormulaTold, initial, NumberIs}
 use Rattle.machine_run.specs.Evaluating.{Stands, Bare, Evaluated}
 use Rattle.machine_run.specs.StartLaws.{began_at, Starting, starts, same-table, wrote-behind, noted_at}
-use Rattle.machine_run.specs.declared.cycle.Outcome.{Outcome}
-use Rattle.machine_run.specs.declared.cycle.Outcome.TheVariants.{Came as Comes, Refused as Fails}
-use Rattle.machine_run.specs.declared.Written.{Written}
-use Rattle.machine_run.specs.declared.Written.TheVariants.{At}
 use Rattle.writing.specs.StayLaws.{wrote_stays}
 
 -- what has come of a value, of a formula
@@ -90,18 +86,18 @@ module _ {s : Source} {mem table : List ℕ} {entries k at : ℕ} (room : Room s
   }
 
   -- what it tells
-  module _ {mem' table' : List ℕ} {m : Machine} {r : Outcome} (em : m ≡ initial mem entries k at (mode_of a)) (v : Evaluated s mem mem' table table' m r) where
-    final : {n : Machine} → r ≡ Comes n → {R : Realm s} {c : Context} {e : Expr} → Given s R mem table entries k at c e
+  module _ {mem' table' : List ℕ} {m : Machine} {r : Returned Machine} (em : m ≡ initial mem entries k at (mode_of a)) (v : Evaluated s mem mem' table table' m r) where
+    final : {n : Machine} → r ≡ Ok n → {R : Realm s} {c : Context} {e : Expr} → Given s R mem table entries k at c e
         → Final R mem' table' n (works a c e) (began_at (regions_of mem entries) table at (λ l. room.sized))
     final q g = let t = (rw q at ((rw em at v).tells _ _ _ (begun g))).ends in ended t.state t.done.mode t.done.bare
 
-    few_nodes_lem : {n : Machine} → r ≡ Comes n → {R : Realm s} {c : Context} {e : Expr} → Given s R mem table entries k at c e → n.nodes ≤ suc max_nodes
+    few_nodes_lem : {n : Machine} → r ≡ Ok n → {R : Realm s} {c : Context} {e : Expr} → Given s R mem table entries k at c e → n.nodes ≤ suc max_nodes
     few_nodes_lem q g = (rw q at ((rw em at v).tells _ _ _ (begun g))).ends.state.few
 
-    refused : {number place : ℕ} → r ≡ Fails number place → {R : Realm s} {c : Context} {e : Expr} → Given s R mem table entries k at c e → works a c e ≡ Refused number place
+    refused : {number place : ℕ} → r ≡ Err (refusal number place) → {R : Realm s} {c : Context} {e : Expr} → Given s R mem table entries k at c e → works a c e ≡ Refused number place
     refused q g = (rw q at ((rw em at v).tells _ _ _ (begun g))).ends
 
-module _ {s : Source} (R : Realm s) (o : Began) (mem : List ℕ) {n : Machine} {w : Worked} (h : NumberIs n w) where
+module _ {s : Source} (R : Realm s) (o : Began) (mem : List ℕ) {n : Machine} {w : Returned ℕ} (h : NumberIs n w) where
   other_tells : (u : Value) → number u ≡ Refused 9 0 → (n.mode ≡ is_number → ⊥) → TellsNumber w (Done u)
   unfolding ◌>>=◌
   other_tells u e f = rw (h.other f) (record { says = sym e; small = tt })
@@ -132,8 +128,8 @@ module _ {s : Source} {mem table : List ℕ} {entries k at : ℕ} (h : Runnable 
   run-begins a e = rw e (run-stands h.room a h.given, record { mode = mode_few a; bare = refl })
 
   -- the number of an expression
-  module _ {mem' table' : List ℕ} {m : Machine} {r : Outcome} (em : m ≡ initial mem entries k at (mode_of Evaluate)) (v : Evaluated s mem mem' table table' m r) where
-    pub number-comes : {n : Machine} {w : Worked} → r ≡ Comes n → NumberIs n w → NumberTold s mem mem' table table' entries k at w
+  module _ {mem' table' : List ℕ} {m : Machine} {r : Returned Machine} (em : m ≡ initial mem entries k at (mode_of Evaluate)) (v : Evaluated s mem mem' table table' m r) where
+    pub number-comes : {n : Machine} {w : Returned ℕ} → r ≡ Ok n → NumberIs n w → NumberTold s mem mem' table table' entries k at w
     number-comes {n} {w} q i = record {
       len = v.len;
       same = λ j z.
@@ -147,7 +143,7 @@ module _ {s : Source} {mem table : List ℕ} {entries k at : ℕ} (h : Runnable 
           subst (TellsNumber w) (sym d.1.0) (number-tells R o mem' i d.0 (subst (Come R o mem' n) d.1.1 f.come));
     }
 
-    pub number-fails : {number place : ℕ} → r ≡ Fails number place → NumberTold s mem mem' table table' entries k at (Worked.Refused number place)
+    pub number-fails : {number place : ℕ} → r ≡ Err (refusal number place) → NumberTold s mem mem' table table' entries k at (Err (refusal number place))
     number-fails q = record {
       len = v.len;
       same = λ j z. absurd (let y : ◌≡◌ {A = ℕ} 0 1 = cc in omega arith);
@@ -155,8 +151,8 @@ module _ {s : Source} {mem table : List ℕ} {entries k at : ℕ} (h : Runnable 
     }
 
   -- the formula
-  module _ {mem' table' : List ℕ} {m : Machine} {r : Outcome} (em : m ≡ initial mem entries k at (mode_of Expand)) (v : Evaluated s mem mem' table table' m r) where
-    pub formula-comes : {n : Machine} → r ≡ Comes n → FormulaTold s mem mem' table table' entries k at (At n.nodes)
+  module _ {mem' table' : List ℕ} {m : Machine} {r : Returned Machine} (em : m ≡ initial mem entries k at (mode_of Expand)) (v : Evaluated s mem mem' table table' m r) where
+    pub formula-comes : {n : Machine} → r ≡ Ok n → FormulaTold s mem mem' table table' entries k at (Ok n.nodes)
     formula-comes {n} q = record {
       len = v.len;
       slots = (final h.room Expand em v q h.given).noted.slots_word_lem;
@@ -178,7 +174,7 @@ module _ {s : Source} {mem table : List ℕ} {entries k at : ℕ} (h : Runnable 
     }
 
     -- where slots begin is written again, whatever became of the memory
-    pub formula-fails : {number place i : ℕ} → r ≡ Fails number place → i ≡ get_or mem slots_word 0 → FormulaTold s mem (set mem' slots_word i) table table' entries k at (Written.Refused number place)
+    pub formula-fails : {number place i : ℕ} → r ≡ Err (refusal number place) → i ≡ get_or mem slots_word 0 → FormulaTold s mem (set mem' slots_word i) table table' entries k at (Err (refusal number place))
     formula-fails {i = i} q z = record {
       len = length-set mem' slots_word i ∙ v.len;
       slots = get_or-set_same mem' slots_word i 0 (let l = slots_inside in let e = v.len in omega arith) ∙ z;

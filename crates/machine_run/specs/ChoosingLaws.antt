@@ -1,6 +1,7 @@
 -- An entry or a frame meets what the step of its kind or phase asks for; steps that write no nodes, beside a table.
 use Rattle.std.specs.Prelude.{ℕ, suc, ◌≤◌, ◌<◌, false, List, ◌≡◌}
 use Rattle.std.proofs.Common.{sym, ap, ◌∙◌, arith}
+use Rattle.machine.specs.Stepped.{Stepped}
 use Rattle.entries.specs.Kinds as Kind
 use Rattle.operands.specs.Entries.{kind_at}
 use Rattle.operands.specs.Classes.{class_of, a_formula}
@@ -54,7 +55,6 @@ use Rattle.machine.specs.States.{mode_of, phase_at, Ready, ReadyToWrite, Steps, 
 use Rattle.machine.specs.TakeLaws.{top-phase}
 use Rattle.machine.specs.Entering.{Evaluates}
 use Rattle.machine.specs.declared.Machine.{Machine}
-use Rattle.machine.specs.declared.Move.{Move}
 use Rattle.each_steps.specs.Misfits.{Logical, Formless}
 use Rattle.machine_run.specs.Choosing.{Kinded, Collected}
 
@@ -80,7 +80,7 @@ module _ {work : List ℕ} {m : Machine} {k : ℕ} where
   formless_in h e l = record { mode = h; making = ap making_of (sym e) ∙ misfit-sets k l }
 
 -- beside a table
-module _ {s : Source} {mem mem' out : List ℕ} {m : Machine} {r : Move} where
+module _ {s : Source} {mem mem' out : List ℕ} {m : Machine} {r : Stepped} where
   pub steps-write : Steps s mem mem' m r → Writes s mem mem' out out m r
   steps-write h = record { turns = λ R x o. h.turns R x o out }
 

@@ -1,9 +1,12 @@
 -- The loop over steps, and the entry that is worked out in a memory of its own.
-use Rattle.std.specs.Prelude.{ℕ, suc, ◌+◌, ◌-◌, ◌*◌, ◌≤◌, ◌<◌, ◌^◌, Bool, true, false, List, ◌≡◌, refl, T, eqb, length, get_or, drop}
+use Rattle.std.specs.Prelude.{ℕ, suc, ◌+◌, ◌-◌, ◌*◌, ◌≤◌, ◌<◌, ◌^◌, Bool, true, false, List, ◌≡◌, refl, T, eqb, length, get_or, drop, Ok, Err}
 use Rattle.std.proofs.Common.{sym, ap, ◌∙◌, subst, arith, eqb→eq}
 use Rattle.std.proofs.Math.Dec.{eqb_refl}
 use Rattle.std.proofs.Math.Seq.{drop-length}
 use Rattle.node.specs.Result.{Result}
+use Rattle.node.specs.Returned.{refusal, Returned}
+use Rattle.machine.specs.declared.Move.TheVariants.{Next, Short}
+use Rattle.machine.specs.Stepped.{Stepped}
 use Rattle.language.specs.Values.{Number, Set, Logic, Bus, Unsized, Choice}
 use Rattle.operands.specs.Working.{Source}
 use Rattle.memory_sets.specs.Places.{Copied}
@@ -24,15 +27,11 @@ use Rattle.machine.specs.States.{State, mode_of, cost, Went, Parted, Turned, Rea
 use Rattle.machine.specs.StateLaws.{Entered, entered, ended, top_of}
 use Rattle.machine.specs.EnterLaws.{cost-here, costs-frame, entry_few}
 use Rattle.machine.specs.declared.Machine.{Machine}
-use Rattle.machine.specs.declared.Move.{Move}
-use Rattle.machine.specs.declared.Move.TheVariants.{Next, Short, Refused as Refuses}
 use Rattle.machine_run.specs.Running.{apart_memory, smaller}
 use Rattle.machine_run.specs.Bringing.{outset, Bringable, Brought}
 use Rattle.machine_run.specs.Evaluating.{Done as Finish, Going, Finished, Roomy, Stands, Bare, Arrives, Ended, Evaluated, moved}
 use Rattle.machine_run.specs.StartLaws.{began_at, Starting, starts, noted_at}
 use Rattle.machine_run.specs.BackLaws.{comes_back}
-use Rattle.machine_run.specs.declared.cycle.Outcome.{Outcome}
-use Rattle.machine_run.specs.declared.cycle.Outcome.TheVariants.{Came as Comes, Refused as Fails}
 
 -- the frames end where the memory does, or not
 pub ends-or_goes : (m : Machine) (words : ℕ) → 1 < m.mode → Finished m words (eqb m.frames words)
@@ -56,7 +55,7 @@ pub topped : {s : Source} {mem out : List ℕ} {m : Machine} → ReadyToWrite s 
 topped h g l = record { lent = h.lent; realm = h.realm; answer = h.answer; began = h.began; top = top_of h.state l (g.going l) }
 
 -- a frame that takes what has come is a step
-pub takes-steps : {s : Source} {mem mem' out out' : List ℕ} {m : Machine} {r : Move} → Going m (length mem) → 1 < m.mode → TakesToWrite s mem mem' out out' m r → Writes s mem mem' out out' m r
+pub takes-steps : {s : Source} {mem mem' out out' : List ℕ} {m : Machine} {r : Stepped} → Going m (length mem) → 1 < m.mode → TakesToWrite s mem mem' out out' m r → Writes s mem mem' out out' m r
 takes-steps g l t = record { turns = λ R x o h. t.turns R x o (top_of h l (g.going l)) }
 
 -- where an entry finds no room there is a frame
@@ -110,24 +109,24 @@ module _ {s : Source} {mem0 out0 mem out : List ℕ} {m0 m : Machine} (b : Stand
       }
 
   -- the answer has come
-  pub run_ends : Finish m (length mem) → Evaluated s mem0 mem out0 out m0 (Comes m)
+  pub run_ends : Finish m (length mem) → Evaluated s mem0 mem out0 out m0 (Ok m)
   run_ends f = record { len = g.len; tells = λ R x o h. record { ends = record { state = g.runs R x o h; done = f; keeps = g.keeps } } }
 
   -- a step
-  module _ {mem' out' : List ℕ} {r : Move} (t : Writes s mem mem' out out' m r) where
+  module _ {mem' out' : List ℕ} {r : Stepped} (t : Writes s mem mem' out out' m r) where
     turned : Turned b.realm mem mem' out out' m b.answer b.began r
     turned = t.turns b.realm b.answer b.began here
 
     step-len : length mem' ≡ length mem0
     step-len = turned.len ∙ g.len
 
-    went : {n : Machine} → r ≡ Next n → (R : Realm s) (x : Result Came) (o : Began) → State R mem0 out0 m0 x o → Went R mem mem' out' m n x o
+    went : {n : Machine} → r ≡ Ok (Next n) → (R : Realm s) (x : Result Came) (o : Began) → State R mem0 out0 m0 x o → Went R mem mem' out' m n x o
     went e R x o h = (rw e at (t.turns R x o (g.runs R x o h))).after
 
-    pub step_less : {n : Machine} → r ≡ Next n → cost mem' n < cost mem m
+    pub step_less : {n : Machine} → r ≡ Ok (Next n) → cost mem' n < cost mem m
     step_less e = (went e b.realm b.answer b.began b.state).less
 
-    pub step-again : {n : Machine} → r ≡ Next n → Runs s mem0 out0 m0 mem' out' n
+    pub step-again : {n : Machine} → r ≡ Ok (Next n) → Runs s mem0 out0 m0 mem' out' n
     step-again {n} e =
         let l = step_less e in
         let c = g.bound in
@@ -138,13 +137,13 @@ module _ {s : Source} {mem0 out0 mem out : List ℕ} {m0 m : Machine} (b : Stand
           runs = λ R x o h. (went e R x o h).state;
         }
 
-    pub step-fails : {number place : ℕ} → r ≡ Refuses number place → Evaluated s mem0 mem' out0 out' m0 (Fails number place)
+    pub step-fails : {number place : ℕ} → r ≡ Err (refusal number place) → Evaluated s mem0 mem' out0 out' m0 (Err (refusal number place))
     step-fails e = record { len = step-len; tells = λ R x o h. record { ends = (rw e at (t.turns R x o (g.runs R x o h))).after } }
 
-    pub step-short : r ≡ Short → Parted mem mem' out out' m
+    pub step-short : r ≡ Ok Short → Parted mem mem' out out' m
     step-short e = (rw e at turned).after
 
-    pub step_stays : r ≡ Short → Runs s mem0 out0 m0 mem' out' m
+    pub step_stays : r ≡ Ok Short → Runs s mem0 out0 m0 mem' out' m
     step_stays e =
         subst (λ (z : List ℕ). Runs s mem0 out0 m0 z out' m) (sym (step-short e).same) (subst (λ (z : List ℕ). Runs s mem0 out0 m0 mem z m) (sym (step-short e).same-table) g)
 
@@ -158,8 +157,8 @@ module _ {s : Source} {mem0 out0 mem out : List ℕ} {m0 m : Machine} (b : Stand
       omega arith
 
 -- a step that finds no room, and then what comes back
-pub back_falls : {s : Source} {mem0 out0 mem out mem1 out1 mem' out' : List ℕ} {m0 m n : Machine} {r : Move} {u : Outcome} (b : Stands s mem0 out0 m0) (g : Runs s mem0 out0 m0 mem out m)
-    → Writes s mem mem1 out out1 m r → r ≡ Short → Writes s mem1 mem' out1 out' m (moved u) → u ≡ Comes n → cost mem' n < cost mem m
+pub back_falls : {s : Source} {mem0 out0 mem out mem1 out1 mem' out' : List ℕ} {m0 m n : Machine} {r : Stepped} {u : Returned Machine} (b : Stands s mem0 out0 m0) (g : Runs s mem0 out0 m0 mem out m)
+    → Writes s mem mem1 out out1 m r → r ≡ Ok Short → Writes s mem1 mem' out1 out' m (moved u) → u ≡ Ok n → cost mem' n < cost mem m
 back_falls {mem' = mem'} {m = m} {n} b g t e p q = subst (λ (z : List ℕ). cost mem' n < cost z m) (step-short b g t e).same (step_less b (step_stays b g t e) p (ap moved q))
 
 -- apart: the words below the free slots are copied
@@ -287,16 +286,16 @@ module _ {s : Source} {mem out zeros free : List ℕ} (m : Machine) (long : apar
     fresh-begins q = rw q (fresh-stands, record { mode = e; bare = long ∙ sym c.kept.len })
 
     -- what has come there
-    module _ {free' out' : List ℕ} {k : Machine} {r : Outcome} (ek : k ≡ outset m apart_memory) (v : Evaluated s free free' out out' k r) where
+    module _ {free' out' : List ℕ} {k : Machine} {r : Returned Machine} (ek : k ≡ outset m apart_memory) (v : Evaluated s free free' out out' k r) where
       ends_there : {R : Realm s} {x : Result Came} {o : Began} (y : Entered R mem out m x o)
           → Ended R free free' out' (works y.aim y.context y.tree) (began_at (regions_at m o) out m.nodes (laid-sized y.laid)) r
       ends_there {R} {x} {o} y = (rw ek at v).tells R (works y.aim y.context y.tree) (began_at (regions_at m o) out m.nodes (laid-sized y.laid)) (starts (laid-sized y.laid) (starting y))
 
-      arrives-there : {n : Machine} → r ≡ Comes n → {R : Realm s} {x : Result Came} {o : Began} (y : Entered R mem out m x o)
+      arrives-there : {n : Machine} → r ≡ Ok n → {R : Realm s} {x : Result Came} {o : Began} (y : Entered R mem out m x o)
           → Arrives R free free' out' n (works y.aim y.context y.tree) (began_at (regions_at m o) out m.nodes (laid-sized y.laid))
       arrives-there q y = (rw q at (ends_there y)).ends
 
-      pub apart-bringable : {n : Machine} → r ≡ Comes n → Bringable free' mem m n
+      pub apart-bringable : {n : Machine} → r ≡ Ok n → Bringable free' mem m n
       apart-bringable {n} q =
           let y = entered b.state e in
           let a = arrives-there q y in
@@ -326,7 +325,7 @@ module _ {s : Source} {mem out zeros free : List ℕ} (m : Machine) (long : apar
             source-set = λ i. (z i).1;
           }
 
-      pub apart-comes : {n j : Machine} {mem' : List ℕ} → r ≡ Comes n → Brought free' mem mem' m n j → Writes s mem mem' out out' m (Next j)
+      pub apart-comes : {n j : Machine} {mem' : List ℕ} → r ≡ Ok n → Brought free' mem mem' m n j → Writes s mem mem' out out' m (Ok (Next j))
       apart-comes {n} {j} q w = record {
         turns = λ R x o h.
             let y = entered h e in
@@ -334,15 +333,12 @@ module _ {s : Source} {mem out zeros free : List ℕ} (m : Machine) (long : apar
             record { len = w.len; after = comes_back y (copied c) a.keeps (ended a.state a.done.mode a.done.bare) a.state.few w };
       }
 
-      refused-there : {number place : ℕ} → r ≡ Fails number place → Writes s mem mem out out' m (Refuses number place)
-      refused-there {number} {place} q = record {
+      pub apart-fails : {number place : ℕ} → r ≡ Err (refusal number place) → Writes s mem mem out out' m (Err (refusal number place))
+      apart-fails {number} {place} q = record {
         turns = λ R x o h.
             let y = entered h e in
             record { len = refl; after = means_refused x y.frames number place (means_as x y.frames (rw q at (ends_there y)).ends y.same) };
       }
-
-      pub apart-fails : {number place : ℕ} → r ≡ Fails number place → Writes s mem mem out out' m (moved r)
-      apart-fails q = subst (λ (i : Outcome). Writes s mem mem out out' m (moved i)) (sym q) (refused-there q)
 
 -- the entry is the same there
 pub outset_less : (m : Machine) {k : Machine} {t : ℕ} → 2 * price (suc m.value) + 1 ≡ t → k ≡ outset m apart_memory → 2 * price (suc k.value) < t

@@ -1,6 +1,9 @@
 -- The machine's loop: from a state with an empty stack to one in which the answer has come.
-use Rattle.std.specs.Prelude.{ℕ, ◌+◌, ◌≤◌, ◌<◌, Bool, true, false, List, ◌≡◌, length}
+use Rattle.std.specs.Prelude.{ℕ, ◌+◌, ◌≤◌, ◌<◌, Bool, true, false, List, ◌≡◌, length, Ok, Err}
 use Rattle.node.specs.Result.{Result, Refused}
+use Rattle.node.specs.Returned.{Returned}
+use Rattle.machine.specs.declared.Move.TheVariants.{Next}
+use Rattle.machine.specs.Stepped.{Stepped}
 use Rattle.operands.specs.Working.{Source}
 use Rattle.machine.specs.Came.{Expand, Came}
 use Rattle.machine.specs.Memory.{Regions, Keeps, frame_words, spare, reserve}
@@ -8,11 +11,7 @@ use Rattle.machine.specs.Realm.{Realm}
 use Rattle.machine.specs.Table.{Began}
 use Rattle.machine.specs.States.{mode_of, Lent, State}
 use Rattle.machine.specs.declared.Machine.{Machine}
-use Rattle.machine.specs.declared.Move.{Move}
-use Rattle.machine.specs.declared.Move.TheVariants.{Next, Refused as Refuses}
 use Rattle.machine_run.specs.Running.{max_memory, smaller}
-use Rattle.machine_run.specs.declared.cycle.Outcome.{Outcome}
-use Rattle.machine_run.specs.declared.cycle.Outcome.TheVariants.{Came as Comes, Refused as Fails}
 
 -- something has come, and no frame is left
 pub record Done (m : Machine) (words : ℕ) : Type 0 where
@@ -51,19 +50,19 @@ pub record Arrives {s : Source} (R : Realm s) (mem mem' out' : List ℕ) (n : Ma
   pub done : Done n (length mem')
   pub keeps : Keeps mem mem'
 
-abbrev pub Ends : {s : Source} → Realm s → (mem mem' out' : List ℕ) → Result Came → Began → Outcome → Type 0
-Ends R mem mem' out' x o (Comes n) = Arrives R mem mem' out' n x o
-Ends R mem mem' out' x o (Fails number place) = x ≡ Refused number place
+abbrev pub Ends : {s : Source} → Realm s → (mem mem' out' : List ℕ) → Result Came → Began → Returned Machine → Type 0
+Ends R mem mem' out' x o (Ok n) = Arrives R mem mem' out' n x o
+Ends R mem mem' out' x o (Err r) = x ≡ Refused r.number r.place
 
-pub record Ended {s : Source} (R : Realm s) (mem mem' out' : List ℕ) (x : Result Came) (o : Began) (r : Outcome) : Type 0 where
+pub record Ended {s : Source} (R : Realm s) (mem mem' out' : List ℕ) (x : Result Came) (o : Began) (r : Returned Machine) : Type 0 where
   pub ends : Ends R mem mem' out' x o r
 
 -- whatever is worked out
-pub record Evaluated (s : Source) (mem mem' out out' : List ℕ) (m : Machine) (r : Outcome) : Type 0 where
+pub record Evaluated (s : Source) (mem mem' out out' : List ℕ) (m : Machine) (r : Returned Machine) : Type 0 where
   pub len : length mem' ≡ length mem
   pub tells : (R : Realm s) (x : Result Came) (o : Began) → State R mem out m x o → Ended R mem mem' out' x o r
 
 -- an entry worked out apart is a step
-abbrev pub moved : Outcome → Move
-moved (Comes n) = Next n
-moved (Fails number place) = Refuses number place
+abbrev pub moved : Returned Machine → Stepped
+moved (Ok n) = Ok (Next n)
+moved (Err r) = Err r

@@ -1,14 +1,14 @@
 -- What is asked for and promised where the expression at an entry is worked out by the machine.
-use Rattle.std.specs.Prelude.{ℕ, suc, min, ◌+◌, ◌≤◌, ◌<◌, List, [], ◌≡◌, length, get_or}
+use Rattle.std.specs.Prelude.{ℕ, suc, min, ◌+◌, ◌≤◌, ◌<◌, List, [], ◌≡◌, length, get_or, Ok, Err}
 use Rattle.node.specs.Limits.{max_nodes}
 use Rattle.node.specs.Ltl.{Formula}
 use Rattle.node.specs.Result.{Result, Done}
+use Rattle.node.specs.Returned.{Returned, refusal}
 use Rattle.writing.specs.Writing.{Wrote}
 use Rattle.language.specs.Limits.{max_tokens}
 use Rattle.language.specs.Tree.{Expr}
 use Rattle.language.specs.Values.{value}
 use Rattle.language.specs.Expansion.{Context, expansion}
-use Rattle.sets.specs.declared.Worked.{Worked}
 use Rattle.operands.specs.Working.{Source, TellsNumber}
 use Rattle.machine.specs.Memory.{Regions, slots_word, frame_words, spare, reserve}
 use Rattle.machine.specs.Realm.{Operand, Realm}
@@ -16,8 +16,6 @@ use Rattle.machine.specs.Notes.{Noted, Lasting}
 use Rattle.machine.specs.States.{Lent}
 use Rattle.machine.specs.Telling.{is_number}
 use Rattle.machine.specs.declared.Machine.{Machine}
-use Rattle.machine_run.specs.declared.Written.{Written}
-use Rattle.machine_run.specs.declared.Written.TheVariants.{At}
 
 -- the words of the largest memory, of one in which an entry is worked out apart, and of the smaller one: a memory of n words, or one apart
 abbrev pub max_memory : ℕ
@@ -58,9 +56,9 @@ pub record Runnable (s : Source) (mem table : List ℕ) (entries k at : ℕ) : T
   pub given : Given s realm mem table entries k at context expr
 
 -- of whatever expression stands there, the number that it is
-pub record NumberTold (s : Source) (mem mem' table table' : List ℕ) (entries k at : ℕ) (r : Worked) : Type 0 where
+pub record NumberTold (s : Source) (mem mem' table table' : List ℕ) (entries k at : ℕ) (r : Returned ℕ) : Type 0 where
   pub len : length mem' ≡ length mem
-  pub same : (n : ℕ) → r ≡ Worked.Value n → table' ≡ table
+  pub same : (n : ℕ) → r ≡ Ok n → table' ≡ table
   pub tells : (R : Realm s) (c : Context) (e : Expr) → Given s R mem table entries k at c e → TellsNumber r (value c.values e)
 
 -- the formula is written from `at` up to n; what is noted of the names holds behind it
@@ -70,12 +68,12 @@ pub record Formed {s : Source} (R : Realm s) (mem' table table' : List ℕ) (ent
   pub noted : Noted R (regions_of mem' entries) n mem'
   pub lasting : Lasting R.W mem' table' n
 
-abbrev pub Answers : (ℕ → Formula → Type 0) → Written → Result Formula → Type 0
-Answers P (At n) v = (f : Formula) × ((v ≡ Done f) × P n f)
-Answers P (Written.Refused n p) v = v ≡ Result.Refused n p
+abbrev pub Answers : (ℕ → Formula → Type 0) → Returned ℕ → Result Formula → Type 0
+Answers P (Ok n) v = (f : Formula) × ((v ≡ Done f) × P n f)
+Answers P (Err r) v = v ≡ Result.Refused r.number r.place
 
 -- of whatever expression stands there, its expansion
-pub record FormulaTold (s : Source) (mem mem' table table' : List ℕ) (entries k at : ℕ) (r : Written) : Type 0 where
+pub record FormulaTold (s : Source) (mem mem' table table' : List ℕ) (entries k at : ℕ) (r : Returned ℕ) : Type 0 where
   pub len : length mem' ≡ length mem
   pub slots : get_or mem' slots_word 0 ≡ get_or mem slots_word 0
   pub tells : (R : Realm s) (c : Context) (e : Expr) → Given s R mem table entries k at c e → Answers (Formed R mem' table table' entries at) r (expansion c e)
@@ -86,6 +84,6 @@ initial mem entries k at mode =
     record { mode = mode; value = k; from = 0; scope = get_or mem slots_word 0; depth = get_or mem slots_word 0; top = get_or mem slots_word 0 + entries; frames = length mem; nodes = at }
 
 -- a number, or what is none
-pub record NumberIs (n : Machine) (w : Worked) : Type 0 where
-  pub number : n.mode ≡ is_number → w ≡ Worked.Value n.value
-  pub other : (n.mode ≡ is_number → ⊥) → w ≡ Worked.Refused 9 0
+pub record NumberIs (n : Machine) (w : Returned ℕ) : Type 0 where
+  pub number : n.mode ≡ is_number → w ≡ Ok n.value
+  pub other : (n.mode ≡ is_number → ⊥) → w ≡ Err (refusal 9 0)

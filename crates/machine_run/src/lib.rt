@@ -8,27 +8,17 @@ mod frames;
 mod memories;
 mod values;
 
-ghost use Rattle.std.specs.Prelude.{ℕ, suc, ◌+◌, ◌<◌, ◌^◌, length, get_or, ◌≡◌};
+ghost use Rattle.std.specs.Prelude.{suc, ◌+◌, ◌<◌, ◌^◌, length, get_or, ◌≡◌};
 ghost use Rattle.node.specs.Limits.{max_nodes};
-ghost use Rattle.operands.specs.Working.{source};
-ghost use Rattle.sets.specs.declared.Worked.{Worked as NotWorked};
+ghost use Rattle.operands.specs.Working.{view};
 ghost use Rattle.machine.specs.Memory.{slots_word};
-ghost use Rattle.machine_run.specs.declared.cycle.Outcome.{Outcome as NotCome};
-ghost use Rattle.machine_run.specs.declared.Written.{Written as NotWritten};
 ghost use Rattle.machine_run.specs.Running.{Runnable, NumberTold, FormulaTold, initial as initial', NumberIs};
 
-use cycle::{Outcome, evaluate};
+use cycle::evaluate;
 use machine::{Machine, SLOTS_WORD, modes};
-use node::{MAX_NODES, refusals};
-use sets::Worked;
+use node::{MAX_NODES, Refusal, refusals};
+use operands::Source;
 use writing::TOO_MANY;
-
-// Where a formula's nodes end, 8,193 if they do not fit; or a refusal's number and place.
-#[derive(Clone, Copy)]
-pub enum Written {
-    At(usize),
-    Refused(u32, u32),
-}
 
 // The state in which a run begins: the entry on an empty stack, where no big operator's name is visible.
 fn initial(memory: &[u32], entries: usize, k: usize, nodes: usize, mode: u32) -> Machine
@@ -49,77 +39,55 @@ fn initial(memory: &[u32], entries: usize, k: usize, nodes: usize, mode: u32) ->
 }
 
 // The number that has come.
-fn as_number(n: Machine) -> Worked
+fn as_number(n: Machine) -> Result<u32, Refusal>
     ensures { NumberIs n result }
 {
     if n.mode == modes::NUMBER {
-        return Worked::Value(n.value);
+        return Ok(n.value);
     }
-    Worked::Refused(refusals::WRONG_TYPE, 0)
-}
-
-// A refusal handed up, where a number was asked for, and where a formula was.
-fn unnumbered(outcome: Outcome) -> Worked
-    ensures { (n p : ℕ) → outcome ≡ NotCome.Refused n p → result ≡ NotWorked.Refused n p }
-{
-    let Outcome::Refused(number, place) = outcome else {
-        return Worked::Refused(0, 0);
-    };
-    Worked::Refused(number, place)
-}
-
-fn unwritten(outcome: Outcome) -> Written
-    ensures { (n p : ℕ) → outcome ≡ NotCome.Refused n p → result ≡ NotWritten.Refused n p }
-{
-    let Outcome::Refused(number, place) = outcome else {
-        return Written::Refused(0, 0);
-    };
-    Written::Refused(number, place)
+    Err(Refusal {
+        number: refusals::WRONG_TYPE,
+        place: 0,
+    })
 }
 
 // The expression at entry k as a number. Nothing is written to the table, which counts as full.
 pub fn number_of(
-    text: &[u8],
-    work: &[u8],
-    refs: &[u16],
+    source: &Source,
     memory: &mut [u32],
     table: &mut [u32; MAX_NODES],
     entries: usize,
     k: usize,
-) -> Worked
-    requires { Runnable (source text.now work.now refs.now) memory.old table.old entries k (suc max_nodes) }
-    ensures { NumberTold (source text.now work.now refs.now) memory.old memory.new table.old table.new entries k
+) -> Result<u32, Refusal>
+    requires { Runnable (view source.now) memory.old table.old entries k (suc max_nodes) }
+    ensures { NumberTold (view source.now) memory.old memory.new table.old table.new entries k
         (suc max_nodes) result }
 {
     let m = initial(memory, entries, k, TOO_MANY, modes::EVALUATE);
-    let r = evaluate(text, work, refs, memory, table, m);
-    let Outcome::Came(n) = r else {
-        return unnumbered(r);
-    };
+    let n = evaluate(source, memory, table, m)?;
     as_number(n)
 }
 
-// The expression at entry k as a formula, whose nodes go into the table from `at` on.
+// The expression at entry k as a formula, whose nodes go into the table from `at` on: where they end, 8,193 if they do not fit.
 pub fn formula_of(
-    text: &[u8],
-    work: &[u8],
-    refs: &[u16],
+    source: &Source,
     memory: &mut [u32],
     table: &mut [u32; MAX_NODES],
     entries: usize,
     k: usize,
     at: usize,
-) -> Written
-    requires { Runnable (source text.now work.now refs.now) memory.old table.old entries k at }
-    ensures { FormulaTold (source text.now work.now refs.now) memory.old memory.new table.old table.new entries k at
+) -> Result<usize, Refusal>
+    requires { Runnable (view source.now) memory.old table.old entries k at }
+    ensures { FormulaTold (view source.now) memory.old memory.new table.old table.new entries k at
         result }
 {
     let slots = memory[SLOTS_WORD];
     let m = initial(memory, entries, k, at, modes::EXPAND);
-    let r = evaluate(text, work, refs, memory, table, m);
-    let Outcome::Came(n) = r else {
-        memory[SLOTS_WORD] = slots;
-        return unwritten(r);
-    };
-    Written::At(n.nodes)
+    match evaluate(source, memory, table, m) {
+        Ok(n) => Ok(n.nodes),
+        Err(refusal) => {
+            memory[SLOTS_WORD] = slots;
+            Err(refusal)
+        }
+    }
 }

@@ -36,10 +36,8 @@ fn notes(source: &[u32], memory: &mut [u32])
     requires { (free_word ≤ length source.now) × (free_word ≤ length memory.old) }
     ensures { Renoted source.now memory.old memory.new max_names }
 {
-    let mut r: usize = 0;
-    while r < limits::MAX_NAMES {
+    for r in 0..limits::MAX_NAMES {
         note(source, memory, r);
-        r += 1;
     }
 }
 
@@ -67,11 +65,8 @@ fn returned(m: Machine, n: Machine, from: usize) -> Machine
         mode: n.mode,
         value: n.value,
         from,
-        scope: m.scope,
-        depth: m.depth,
-        top: m.top,
-        frames: m.frames,
         nodes: n.nodes,
+        ..m
     }
 }
 
@@ -81,13 +76,9 @@ pub fn outset(m: Machine) -> Machine
     ensures { result ≡ outset' m apart_memory }
 {
     Machine {
-        mode: m.mode,
-        value: m.value,
         from: 0,
-        scope: m.scope,
-        depth: m.depth,
         top: m.depth + m.value as usize + 1,
         frames: WORDS,
-        nodes: m.nodes,
+        ..m
     }
 }

@@ -4,13 +4,14 @@ ghost use Rattle.std.specs.Prelude.{◌≡◌};
 ghost use Rattle.entries.specs.Kinds as Kind;
 ghost use Rattle.machine.specs.Came.{Evaluate};
 ghost use Rattle.machine.specs.States.{mode_of, Ready, Steps};
-ghost use Rattle.operands.specs.Working.{source};
+ghost use Rattle.operands.specs.Working.{view};
 ghost use Rattle.machine_run.specs.Choosing.{Kinded, Collected};
 
 use each_steps::misfits::logic;
 use entries::kinds;
 use fold_steps::over::over;
-use machine::{Machine, Move};
+use machine::{Machine, Stepped};
+use operands::Source;
 use operands::entry::kind_at;
 use set_steps::bounds::bounds;
 use set_steps::braces::listing;
@@ -23,91 +24,77 @@ use value_steps::numbers::{calculation, numeral};
 use value_steps::parens::paren;
 
 // A name, a numeral, a parenthesis; a constant or a bit of a bus, which is a formula.
-fn leaf(text: &[u8], work: &[u8], refs: &[u16], memory: &mut [u32], m: Machine, kind: u32) -> Move
-    requires ready { Ready (source text.now work.now refs.now) memory.old m }
-    requires kinded { Kinded work.now m (mode_of Evaluate) kind Kind.named Kind.measure }
-    ensures { Steps (source text.now work.now refs.now) memory.old memory.new m result }
+fn leaf(source: &Source, memory: &mut [u32], m: Machine, kind: u32) -> Stepped
+    requires ready { Ready (view source.now) memory.old m }
+    requires kinded { Kinded source.now.work.now m (mode_of Evaluate) kind Kind.named Kind.measure }
+    ensures { Steps (view source.now) memory.old memory.new m result }
 {
     if kind == kinds::NAMED {
-        return name(text, work, refs, memory, m);
+        return name(source, memory, m);
     }
     if kind == kinds::NUMERAL {
-        return numeral(text, work, refs, memory, m);
+        return numeral(source, memory, m);
     }
     if kind == kinds::PAREN {
-        return paren(text, work, refs, memory, m);
+        return paren(source, memory, m);
     }
-    logic(text, work, refs, memory, m)
+    logic(source, memory, m)
 }
 
 // An operator of numbers, sets or a bus; or of formulas.
-fn operation(
-    text: &[u8],
-    work: &[u8],
-    refs: &[u16],
-    memory: &mut [u32],
-    m: Machine,
-    kind: u32,
-) -> Move
-    requires ready { Ready (source text.now work.now refs.now) memory.old m }
-    requires kinded { Kinded work.now m (mode_of Evaluate) kind Kind.measure Kind.equality }
-    ensures { Steps (source text.now work.now refs.now) memory.old memory.new m result }
+fn operation(source: &Source, memory: &mut [u32], m: Machine, kind: u32) -> Stepped
+    requires ready { Ready (view source.now) memory.old m }
+    requires kinded { Kinded source.now.work.now m (mode_of Evaluate) kind Kind.measure Kind.equality }
+    ensures { Steps (view source.now) memory.old memory.new m result }
 {
     if kind < kinds::WIDTH {
-        return measurement(text, work, refs, memory, m);
+        return measurement(source, memory, m);
     }
     if kind == kinds::WIDTH {
-        return width(text, work, refs, memory, m);
+        return width(source, memory, m);
     }
     if kind < kinds::ARITHMETIC {
-        return logic(text, work, refs, memory, m);
+        return logic(source, memory, m);
     }
     if kind < kinds::COMBINATION {
-        return calculation(text, work, refs, memory, m);
+        return calculation(source, memory, m);
     }
-    combination(text, work, refs, memory, m)
+    combination(source, memory, m)
 }
 
 // A big operator, bounds, braces, a range.
-fn collection(
-    text: &[u8],
-    work: &[u8],
-    refs: &[u16],
-    memory: &mut [u32],
-    m: Machine,
-    kind: u32,
-) -> Move
-    requires ready { Ready (source text.now work.now refs.now) memory.old m }
-    requires collected { Collected work.now m kind }
-    ensures { Steps (source text.now work.now refs.now) memory.old memory.new m result }
+fn collection(source: &Source, memory: &mut [u32], m: Machine, kind: u32) -> Stepped
+    requires ready { Ready (view source.now) memory.old m }
+    requires collected { Collected source.now.work.now m kind }
+    ensures { Steps (view source.now) memory.old memory.new m result }
 {
     if kind < kinds::BINDER {
-        return over(text, work, refs, memory, m);
+        return over(source, memory, m);
     }
     if kind < kinds::LISTED {
-        return bounds(text, work, refs, memory, m);
+        return bounds(source, memory, m);
     }
     if kind == kinds::LISTED {
-        return listing(text, work, refs, memory, m);
+        return listing(source, memory, m);
     }
-    stepping(text, work, refs, memory, m)
+    stepping(source, memory, m)
 }
 
 // The entry is worked out as a value.
-pub fn value(text: &[u8], work: &[u8], refs: &[u16], memory: &mut [u32], m: Machine) -> Move
-    requires ready { Ready (source text.now work.now refs.now) memory.old m }
+pub fn value(source: &Source, memory: &mut [u32], m: Machine) -> Stepped
+    requires ready { Ready (view source.now) memory.old m }
     requires mode_value { m.mode ≡ mode_of Evaluate }
-    ensures { Steps (source text.now work.now refs.now) memory.old memory.new m result }
+    ensures { Steps (view source.now) memory.old memory.new m result }
 {
-    let kind = kind_at(work, m.value as usize);
+    let kind = kind_at(source.work, m.value as usize);
     if kind < kinds::MEASURE {
-        return leaf(text, work, refs, memory, m, kind);
+        return leaf(source, memory, m, kind);
     }
     if kind < kinds::EQUALITY {
-        return operation(text, work, refs, memory, m, kind);
+        return operation(source, memory, m, kind);
     }
     if kind < kinds::BIG_NUMBERS {
-        return logic(text, work, refs, memory, m);
+        return logic(source, memory, m);
     }
-    collection(text, work, refs, memory, m, kind)
+    collection(source, memory, m, kind)
 }

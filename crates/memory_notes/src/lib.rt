@@ -7,8 +7,6 @@ ghost use Rattle.language.specs.Limits.{max_names, max_elements};
 ghost use Rattle.machine.specs.Memory.{first_kept};
 ghost use Rattle.memory_notes.specs.Laid.{last_slots, Laid};
 
-use basics::least;
-use basics::u8_u32::wide;
 use language::limits;
 use machine::{FREE_WORD, NOTE, SLOTS_WORD};
 use name_values::sorts;
@@ -32,25 +30,23 @@ fn behind(kept: usize, sort: u8) -> usize
     kept
 }
 
-// By number, each name's sort, number and first signal; nothing is kept and no formula marked.
+// By number, each name's sort, number and first signal (three tables, as `declarations` fills two and `ports` the third); nothing is kept and no formula marked.
 pub fn lay(sorts: &[u8], numbers: &[u32], firsts: &[u32], memory: &mut [u32])
     requires max_names_in_bounds { (max_names ≤ length sorts.now) × ((max_names ≤ length numbers.now) × (max_names ≤ length firsts.now)) }
     requires first_kept_bound { (first_kept ≤ last_slots (length memory.old)) × (length memory.old < 2 ^ 32) }
     ensures { (length memory.new ≡ length memory.old) × Laid memory.new sorts.now numbers.now firsts.now }
 {
     let mut kept = FIRST_KEPT;
-    let mut r: usize = 0;
-    while r < limits::MAX_NAMES {
+    for r in 0..limits::MAX_NAMES {
         let at = NOTE * r;
-        memory[at] = wide(sorts[r]);
+        memory[at] = u32::from(sorts[r]);
         memory[at + 1] = numbers[r];
         memory[at + 2] = firsts[r];
         memory[at + 3] = 0;
         kept = behind(kept, sorts[r]);
-        r += 1;
     }
-    let last = least(memory.len() / SHARE, MOST_SLOTS);
-    let slots = least(kept, last);
+    let last = (memory.len() / SHARE).min(MOST_SLOTS);
+    let slots = kept.min(last);
     memory[FREE_WORD] = FIRST_KEPT as u32;
     memory[SLOTS_WORD] = slots as u32;
 }

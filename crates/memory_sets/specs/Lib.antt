@@ -3,7 +3,6 @@ pub mod Sorting
 pub mod PlaceLaws
 pub mod AnswerLaws
 pub mod PlacedLaws
-pub mod SearchLaws
 pub mod MergeLaws
 pub mod SelectLaws
 pub mod SortingLaws

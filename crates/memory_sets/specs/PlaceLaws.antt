@@ -69,6 +69,7 @@ parted-kept {mem} {mem'} s j x h l p =
     let bound = p.bound in
     record { bound = bound; lower = λ k u. rw (get_or-drop s.at mem' k 0 ∙ h.below (s.at + k) (omega arith) ∙ sym (get_or-drop s.at mem k 0)) (p.lower k u) }
 
+-- words that were copied
 -- words copied one by one
 pub copied_none : (source : List ℕ) (a : ℕ) (mem : List ℕ) (b : ℕ) → Copied source a mem mem b 0
 copied_none source a mem b = record { words = λ i l. absurd (omega arith); kept = outside_none mem b }

@@ -1,11 +1,11 @@
 -- Sets in one lent memory, by their addresses; and what a function leaves as it was.
 use Rattle.std.specs.Prelude.{ℕ, suc, ◌+◌, ◌≤◌, ◌<◌, ◌≡◌, List, length, get_or, take, drop}
 use Rattle.node.specs.Result.{Result}
+use Rattle.node.specs.Returned.{Returned}
 use Rattle.language.specs.Limits.{max_elements}
 use Rattle.sets.specs.Answers.{SetIs}
 use Rattle.sets.specs.Listing.{Listing}
 use Rattle.sets.specs.Combined.{Ordered, Selected}
-use Rattle.sets.specs.declared.Worked.{Worked}
 use Rattle.memory_sets.specs.declared.Span.{Span}
 
 -- all words but the n from `at` on are as before
@@ -47,7 +47,7 @@ abbrev pub Writes : (mem mem' : List ℕ) (at : ℕ) → Type 0
 Writes mem mem' at = Outside mem mem' at (suc max_elements)
 
 -- what an answer says of the words at an address: a set or a refusal
-pub record SetAt (mem mem' : List ℕ) (at : ℕ) (r : Worked) (s : Result (List ℕ)) : Type 0 where
+pub record SetAt (mem mem' : List ℕ) (at : ℕ) (r : Returned ℕ) (s : Result (List ℕ)) : Type 0 where
   pub set : SetIs r (drop at mem') s
   pub kept : Writes mem mem' at
 

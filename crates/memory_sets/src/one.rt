@@ -10,28 +10,15 @@ ghost use Rattle.memory_sets.specs.Places.{elements_at, from, Placed, Room, SetA
 
 use crate::Span;
 use language::limits;
-use node::refusals;
+use node::{Refusal, refusals};
 use operators::codes;
-use sets::Worked;
 
 // How many elements are below x, by halves.
 pub fn below(memory: &[u32], set: Span, x: u32) -> usize
     requires { Placed memory.now set }
     ensures { Parted (from memory.now set) result set.count x × (result < set.count → x ≤ get_or (from memory.now set) result 0) }
 {
-    let at = set.at;
-    let mut low: usize = 0;
-    let mut high = set.count;
-    while low < high {
-        let middle = low + (high - low) / 2;
-        let y = memory[at + middle];
-        if y < x {
-            low = middle + 1;
-        } else {
-            high = middle;
-        }
-    }
-    low
+    memory[set.at..set.at + set.count].partition_point(|y| *y < x)
 }
 
 // Is x kept, below which are j elements of the set? `inside`: where it is an element there; else where it is none.
@@ -59,26 +46,36 @@ pub fn contains(memory: &[u32], set: Span, x: u32) -> bool
 }
 
 // Measures by number; any number but those of SIZE and MIN stands for MAX.
-pub fn measure(place: u32, operator: u32, memory: &[u32], set: Span) -> Worked
+pub fn measure(place: u32, operator: u32, memory: &[u32], set: Span) -> Result<u32, Refusal>
     requires { Placed memory.now set }
     ensures { says result ≡ measure' place (measurement operator) (elements_at memory.now set) }
 {
     let at = set.at;
     let count = set.count;
     if operator == codes::SIZE {
-        return Worked::Value(count as u32);
+        return Ok(count as u32);
     }
     if count == 0 {
-        return Worked::Refused(refusals::OUT_OF_RANGE, place);
+        return Err(Refusal {
+            number: refusals::OUT_OF_RANGE,
+            place,
+        });
     }
     if operator == codes::MIN {
-        return Worked::Value(memory[at]);
+        return Ok(memory[at]);
     }
-    Worked::Value(memory[at + count - 1])
+    Ok(memory[at + count - 1])
 }
 
 // {x, y .. z}, at an address.
-pub fn range(place: u32, x: u32, y: u32, z: u32, memory: &mut [u32], at: usize) -> Worked
+pub fn range(
+    place: u32,
+    x: u32,
+    y: u32,
+    z: u32,
+    memory: &mut [u32],
+    at: usize,
+) -> Result<u32, Refusal>
     requires { Room memory.old at }
     ensures { SetAt memory.old memory.new at result (range' place x y z) }
 {
@@ -95,7 +92,7 @@ pub fn between(
     high: u32,
     memory: &mut [u32],
     at: usize,
-) -> Worked
+) -> Result<u32, Refusal>
     requires { Room memory.old at }
     ensures { SetAt memory.old memory.new at result (between' place above under low high) }
 {

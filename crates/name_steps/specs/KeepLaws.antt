@@ -1,11 +1,12 @@
 -- What a definition's body has come to: a formula is marked where its nodes stand.
-use Rattle.std.specs.Prelude.{ℕ, ◌+◌, ◌≤◌, ◌<◌, List, ◌≡◌, refl, length, get_or}
+use Rattle.std.specs.Prelude.{ℕ, ◌+◌, ◌≤◌, ◌<◌, List, ◌≡◌, refl, length, get_or, Ok}
 use Rattle.std.proofs.Common.{sym, ap, ap₂, ◌∙◌, subst, arith}
 use Rattle.node.specs.Limits.{max_nodes}
 use Rattle.node.specs.Ltl.{Formula}
 use Rattle.node.proofs.PostorderLaws.{size_pos}
 use Rattle.node.specs.Result.{Result, Done, Refused, ◌>>=◌}
 use Rattle.node.proofs.ResultLaws.{not_done}
+use Rattle.machine.specs.declared.Move.TheVariants.{Next}
 use Rattle.writing.specs.WritingLaws.{ends}
 use Rattle.writing.specs.Parts.{Stands as StandsAt}
 use Rattle.writing.specs.PartLaws.{stands}
@@ -35,7 +36,6 @@ use Rattle.machine.specs.FrameViews.{by_phase}
 use Rattle.machine.specs.TakeLaws.{at-word, top-phase, top_as}
 use Rattle.machine.specs.Entering.{Waiting}
 use Rattle.machine.specs.declared.Machine.{Machine}
-use Rattle.machine.specs.declared.Move.TheVariants.{Next}
 use Rattle.value_steps.specs.NotingLaws.{renoted_noted, renoted_lasting, marking, marking_renoted}
 use Rattle.value_steps.specs.ReleaseLaws.{below, Releasing, declared, defined, releases, lets_go}
 use Rattle.value_steps.specs.Moves.{released}
@@ -71,7 +71,7 @@ pub record Keeping (mem : List ℕ) (m : Machine) (from r : ℕ) : Type 0 where
 
 module _ {s : Source} {mem : List ℕ} {m : Machine} (w : Waiting mem m Phase.keep_formula) where
   -- whatever else it is, it goes on
-  pub keep-passes : {scope : ℕ} → scope ≡ get_or mem (m.frames + value_field) 0 → Takes s mem mem m (Next (released m scope))
+  pub keep-passes : {scope : ℕ} → scope ≡ get_or mem (m.frames + value_field) 0 → Takes s mem mem m (Ok (Next (released m scope)))
   keep-passes es = record { turns = λ R x o out t. let v = by_phase t.frame Phase.keep_formula (top-phase t ∙ w.phase) in let h = top_as t v.3 in lets_go h (waiting h) es }
 
   module _ (e : m.mode ≡ is_nodes) {from r : ℕ} (ef : from ≡ get_or mem (m.frames + at_field) 0) (er : r ≡ get_or mem (m.frames + other_field) 0) where
@@ -89,7 +89,7 @@ module _ {s : Source} {mem : List ℕ} {m : Machine} (w : Waiting mem m Phase.ke
           some = λ l. let y = begins h {f = g.formula} ef b in let z = ends b.wrote l in let p = size_pos g.formula in omega arith;
         }
 
-    pub keep-formula : {scope mark : ℕ} → scope ≡ get_or mem (m.frames + value_field) 0 → Marked from m.nodes mark → Takes s mem (marking mem r mark) m (Next (released m scope))
+    pub keep-formula : {scope mark : ℕ} → scope ≡ get_or mem (m.frames + value_field) 0 → Marked from m.nodes mark → Takes s mem (marking mem r mark) m (Ok (Next (released m scope)))
     keep-formula {scope} {mark} es k = record {
       turns = λ R x o out t.
           let v = by_phase t.frame Phase.keep_formula (top-phase t ∙ w.phase) in

@@ -1,11 +1,14 @@
 -- A name in a formula's place, by what is noted of it: a signal is written, a definition's nodes are copied, or its body is worked out first.
-use Rattle.std.specs.Prelude.{ℕ, suc, min, ◌+◌, ◌≤◌, ◌<◌, Bool, true, false, List, ◌≡◌, refl, eqb, get_or}
+use Rattle.std.specs.Prelude.{ℕ, suc, min, ◌+◌, ◌≤◌, ◌<◌, Bool, true, false, List, ◌≡◌, refl, eqb, get_or, Ok, Err}
 use Rattle.std.proofs.Common.{sym, ap, ◌∙◌, arith, eqb-true}
 use Rattle.std.proofs.lemmas.Bool.{eqb-false}
 use Rattle.node.specs.Limits.{max_nodes, field_limit}
 use Rattle.node.specs.Ltl.{Formula, Signal}
 use Rattle.node.specs.Result.{Result, ◌>>=◌}
 use Rattle.node.proofs.ResultLaws.{bind_at, bind_to, bind_refused, bind_value}
+use Rattle.node.specs.Returned.{refusal}
+use Rattle.machine.specs.declared.Move.TheVariants.{Next}
+use Rattle.machine.specs.Stepped.{Stepped}
 use Rattle.writing.specs.Writing.{Wrote}
 use Rattle.language.specs.Limits.{max_names}
 use Rattle.language.specs.Tokens.{Token}
@@ -39,8 +42,6 @@ use Rattle.machine.specs.OpenLaws.{encloses}
 use Rattle.machine.specs.Entering.{Expands}
 use Rattle.machine.specs.EnteringLaws.{works-formula}
 use Rattle.machine.specs.declared.Machine.{Machine}
-use Rattle.machine.specs.declared.Move.{Move}
-use Rattle.machine.specs.declared.Move.TheVariants.{Next, Refused as Refuses}
 use Rattle.machine.specs.PlainLaws.{NoFormula, meaning_plain_lem}
 use Rattle.value_steps.specs.NameLaws.{Using, named_by}
 use Rattle.name_steps.specs.Marks.{Copyable, Again}
@@ -76,7 +77,7 @@ other_sort v l a b c d e f = upper (lower a b c)
 
 module _ {s : Source} {mem out : List ℕ} {m : Machine} (k : Expands s.work m Kind.named Kind.numeral) {r : ℕ} (er : r ≡ get_or s.refs m.value 0) where
   -- a big operator's name
-  pub element-refused : max_names ≤ r → Writes s mem mem out out m (Refuses 9 0)
+  pub element-refused : max_names ≤ r → Writes s mem mem out out m (Err (refusal 9 0))
   element-refused l = record {
     turns = λ R x o h.
         let e = k.mode in
@@ -103,13 +104,13 @@ module _ {s : Source} {mem out : List ℕ} {m : Machine} (k : Expands s.work m K
       meaning-is : {v : Meaning} → meaning_at R.W r ≡ v → works h.aim h.context h.tree ≡ (formed R.ports v token >>= nodes)
       meaning-is q = formula-is ∙ ap (λ (v : Meaning). formed R.ports v token >>= nodes) q
 
-    pub nothing-refused : note_at mem r 0 ≡ Sort.nothing → Writes s mem mem out out m (Refuses 6 0)
+    pub nothing-refused : note_at mem r 0 ≡ Sort.nothing → Writes s mem mem out out m (Err (refusal 6 0))
     nothing-refused z = record {
       turns = λ R x o h. let e = k.mode in let q = entered h (omega arith) in fails q (meaning-is q ((fact q).nothing z) ∙ bind_refused _ 6 0 nodes refl);
     }
 
     -- a number, a set, a bus, an identifier
-    pub other-refused : (note_at mem r 0 ≡ Sort.body → ⊥) → (note_at mem r 0 ≡ Sort.signal → ⊥) → (note_at mem r 0 ≡ Sort.nothing → ⊥) → Writes s mem mem out out m (Refuses 9 0)
+    pub other-refused : (note_at mem r 0 ≡ Sort.body → ⊥) → (note_at mem r 0 ≡ Sort.signal → ⊥) → (note_at mem r 0 ≡ Sort.nothing → ⊥) → Writes s mem mem out out m (Err (refusal 9 0))
     other-refused nb ns nn = record {
       turns = λ R x o h.
           let e = k.mode in
@@ -137,7 +138,7 @@ module _ {s : Source} {mem out : List ℕ} {m : Machine} (k : Expands s.work m K
         let f = ((q.noted.signals (omega arith)).single r l ((fact q).signal z)).1 in
         omega arith
 
-    pub signal-writes : note_at mem r 0 ≡ Sort.signal → {out' : List ℕ} {i n : ℕ} → Signalled (note_at mem r note_address) 0 out out' m.nodes i → n ≡ min i (suc max_nodes) → Writes s mem mem out out' m (Next (wrote m n))
+    pub signal-writes : note_at mem r 0 ≡ Sort.signal → {out' : List ℕ} {i n : ℕ} → Signalled (note_at mem r note_address) 0 out out' m.nodes i → n ≡ min i (suc max_nodes) → Writes s mem mem out out' m (Ok (Next (wrote m n)))
     signal-writes z {out'} {i} g en = record {
       turns = λ R x o h.
           let e = k.mode in
@@ -154,7 +155,7 @@ module _ {s : Source} {mem out : List ℕ} {m : Machine} (k : Expands s.work m K
     mark-copyable h z = copyable (h.state.lasting.lasts r l z)
 
     module _ (b : note_at mem r 0 ≡ Sort.body) where
-      pub mark-writes : (note_at mem r note_mark ≡ 0 → ⊥) → {out' : List ℕ} {i n : ℕ} → Again (note_at mem r note_mark) out out' m.nodes i → n ≡ min i (suc max_nodes) → Writes s mem mem out out' m (Next (wrote m n))
+      pub mark-writes : (note_at mem r note_mark ≡ 0 → ⊥) → {out' : List ℕ} {i n : ℕ} → Again (note_at mem r note_mark) out out' m.nodes i → n ≡ min i (suc max_nodes) → Writes s mem mem out out' m (Ok (Next (wrote m n)))
       mark-writes z g en = record {
         turns = λ R x o h.
             let e = k.mode in
@@ -166,7 +167,7 @@ module _ {s : Source} {mem out : List ℕ} {m : Machine} (k : Expands s.work m K
       }
 
       -- its body is worked out, and a frame waits to mark what is written
-      pub body-writes : {mem' : List ℕ} {u : Move} → Enclosed mem mem' m Phase.keep_formula m.nodes r (mode_of Expand) (note_at mem r note_number) u → Writes s mem mem' out out m u
+      pub body-writes : {mem' : List ℕ} {u : Stepped} → Enclosed mem mem' m Phase.keep_formula m.nodes r (mode_of Expand) (note_at mem r note_number) u → Writes s mem mem' out out m u
       body-writes {mem'} {u} w = record {
         turns = λ R x o h.
             let e = k.mode in

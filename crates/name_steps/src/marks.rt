@@ -8,6 +8,7 @@ use writing::TOO_MANY;
 use writing::copies::copy;
 
 // Past the last node any number but 0 serves: nothing is copied there.
+// The state's number of nodes is a count that goes on where the table is full (head of crate writing).
 const BEYOND: u32 = 1;
 
 // The nodes [at, m), at least one.

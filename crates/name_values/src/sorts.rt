@@ -2,6 +2,7 @@
 ghost use Rattle.std.specs.Prelude.{◌≡◌};
 ghost use Rattle.name_values.specs.Sorts.{sorts as sorts'};
 
+// Numbers and no enum: the tables of names and the notes in the lent memory hold them.
 pub const NUMBER: u8 = 0;
 
 pub const BODY: u8 = 1;

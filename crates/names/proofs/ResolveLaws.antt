@@ -1,10 +1,11 @@
 -- What the walks have found is what refusals 6, 7 and 8 say of the tree, and what its names refer to.
-use Rattle.std.specs.Prelude.{ℕ, zero, suc, ◌+◌, ◌-◌, ◌*◌, ◌≤◌, ◌<◌, min, List, [], true, false, ◌⊎◌, ◌≡◌, length, get_or, drop, replicate}
+use Rattle.std.specs.Prelude.{ℕ, zero, suc, ◌+◌, ◌-◌, ◌*◌, ◌≤◌, ◌<◌, min, List, [], true, false, ◌⊎◌, ◌≡◌, length, get_or, drop, replicate, Ok, Err, unwrap_or}
 use Rattle.std.proofs.Common.{inl, inr, ap₂, ◌∙◌, arith, drop_of_length-le}
 use Rattle.std.proofs.Math.Option.{Option, none, some}
 use Rattle.std.proofs.Math.Path.{refl, sym, ap, subst}
 use Rattle.std.proofs.lemmas.List.{length-replicate, get_or-replicate}
 use Rattle.node.specs.Result.{Done}
+use Rattle.node.specs.Returned.{Returned, refusal}
 use Rattle.language.specs.Limits.{max_bytes, max_tokens, max_names}
 use Rattle.language.specs.Tokens.{Token, tokens}
 use Rattle.language.specs.Tree.{Spec}
@@ -35,12 +36,10 @@ use Rattle.names.specs.Walking.{visible_before, open_before, refers_to, visible_
 use Rattle.names.specs.States.{Begins, WalksAll}
 use Rattle.names.specs.Answering.{answer_of}
 use Rattle.names.proofs.AnsweringLaws.{answer-hidden, answer-again, answer-many, answer-named}
-use Rattle.names.specs.Short.{short_bytes, short_entries}
+use Rattle.names.specs.Short.{short_bytes, short_entries, Fits}
 use Rattle.names.specs.Resolved.{Stored, TreeStored, naming, Resolved, Answers}
 use Rattle.names.specs.declared.census.Census.{Census}
 use Rattle.names.specs.declared.walk.Walk.{Walk}
-use Rattle.names.specs.declared.Naming.{Naming}
-use Rattle.names.specs.declared.Naming.TheVariants.{Named, Refused}
 
 -- the tree's entries, its names numbered
 abbrev walkable : {text w ids : List ℕ} {count entries : ℕ} {x : Spec} → Stored text w count entries x → Interned (tokens text) count ids → max_tokens ≤ length ids → Walkable w ids entries
@@ -123,21 +122,16 @@ module _ {w ids : List ℕ} {entries : ℕ} (h : Walkable w ids entries) where
       drop-nothing zero = refl
       drop-nothing (suc k) = refl
 
--- a stored tree of fewer than n bytes and at most m entries: arrays for so many will do
-pub record Fits (text w : List ℕ) (count entries n m : ℕ) : Type 0 where
-  pub tree : TreeStored text w count entries
-  pub bytes : length text < n
-  pub few : entries ≤ m
-
 module _ {text w : List ℕ} {count entries : ℕ} where
-  pub short_fits : TreeStored text w count entries → length text ≤ short_bytes → entries ≤ short_entries → Fits text w count entries (short_bytes + 1) short_entries
-  short_fits s b e = record { tree = s; bytes = omega arith; few = e }
+  pub short_fits : TreeStored text w count entries → length text ≤ short_bytes → entries ≤ short_entries
+      → Fits text w count entries (short_bytes + 1) (3 * (short_bytes + 1)) (3 * short_entries)
+  short_fits s b e = record { tree = s; bytes = omega arith; links = refl; few = omega arith; nodes = omega arith; words = omega arith }
 
-  pub long_fits : TreeStored text w count entries → Fits text w count entries (max_bytes + 1) max_tokens
-  long_fits s = record { tree = s; bytes = omega (arith, s.stored.lexed.lexical.short); few = s.stored.few }
+  pub long_fits : TreeStored text w count entries → Fits text w count entries (max_bytes + 1) (3 * (max_bytes + 1)) (3 * max_tokens)
+  long_fits s = record { tree = s; bytes = omega (arith, s.stored.lexed.lexical.short); links = refl; few = let l = s.stored.few in omega arith; nodes = omega arith; words = omega arith }
 
-  pub begun : {n m : ℕ} → Fits text w count entries n m → Lexed text w count × Begun text (replicate (3 * n) 0) (replicate n 0) (replicate max_tokens 0)
-  begun {n} f = (f.tree.stored.lexed, begun_zeros (3 * n) n max_tokens (omega arith) f.bytes (omega arith))
+  pub begun : {n l m : ℕ} → Fits text w count entries n l m → Lexed text w count × Begun text (replicate l 0) (replicate n 0) (replicate max_tokens 0)
+  begun {n} {l} f = (f.tree.stored.lexed, begun_zeros l n max_tokens (let k = f.links in omega arith) f.bytes (omega arith))
 
 -- an array of zeros is as long as it is, also when it is written
 zeros_long : (n : ℕ) {m : ℕ} → m ≤ n → m ≤ length (replicate {A = ℕ} n 0)
@@ -148,8 +142,8 @@ zeros_kept n ns e = let z = length-replicate {A = ℕ} n 0 in omega arith
 
 -- for a stored tree, its names numbered, and tables that held no place
 module _
-    {text w ids : List ℕ} {count entries n m : ℕ}
-    (f : Fits text w count entries n m)
+    {text w ids : List ℕ} {count entries n l m : ℕ}
+    (f : Fits text w count entries n l m)
     {x : Spec}
     (st : Stored text w count entries x)
     (i : Interned (tokens text) count ids × (top ids ≤ length text + 1))
@@ -177,15 +171,15 @@ module _
       abbrev d : Declared h seen table found census
       d = read h blanks
 
-      walking : {refs : List ℕ} → max_tokens ≤ length refs → Walking h (last_first (declared_from h Kind.parameter 0)) 0 seen table (replicate (3 * m) 0) refs 0 no_place no_place
-      walking r = walk_begins h d (zeros_long (3 * m) (let l = f.few in omega arith)) r
+      walking : {refs : List ℕ} → max_tokens ≤ length refs → Walking h (last_first (declared_from h Kind.parameter 0)) 0 seen table (replicate m 0) refs 0 no_place no_place
+      walking r = walk_begins h d (zeros_long m f.few) r
 
-      pub begins : {refs : List ℕ} → max_tokens ≤ length refs → Begins w ids entries seen table (replicate (3 * m) 0) refs
+      pub begins : {refs : List ℕ} → max_tokens ≤ length refs → Begins w ids entries seen table (replicate m 0) refs
       begins r = record { walkable = h; declared = last_first (declared_from h Kind.parameter 0); walking = walking r }
 
       module _
           {refs seen' table' stack' refs' : List ℕ} {walk : Walk}
-          (walked : WalksAll w ids entries seen table (replicate (3 * m) 0) refs seen' table' stack' refs' walk)
+          (walked : WalksAll w ids entries seen table (replicate m 0) refs seen' table' stack' refs' walk)
           (r : max_tokens ≤ length refs)
         where
           s : Walking h (last_first (declared_from h Kind.parameter 0)) entries seen' table' stack' refs' walk.depth walk.hidden walk.again
@@ -198,7 +192,7 @@ module _
           q = min census.again walk.again
 
           abbrev c : ℕ
-          c = census.count
+          c = census.tally.count
 
           not-visible : not_visible x ≡ place_of p
           not-visible =
@@ -215,7 +209,7 @@ module _
           too-many-none : c ≤ max_names → too_many x ≡ none
           too-many-none m = ap (λ ns. place_of_first (drop max_names ns)) (sym names_are) ∙ many_none h d.numbered m
 
-          too-many-some : max_names < c → too_many x ≡ some census.place
+          too-many-some : max_names < c → too_many x ≡ some (unwrap_or census.tally.place 0)
           too-many-some m = ap (λ ns. place_of_first (drop max_names ns)) (sym names_are) ∙ d.numbered.behind m
 
           resolved : no_place ≤ p → no_place ≤ q → c ≤ max_names → Resolved x refs' found c
@@ -229,11 +223,11 @@ module _
                 entries = subst (Where (outline x) found) (passed-all h d.numbered ∙ ap last_first names_are) d.numbered.found;
               }
 
-          pub answers : {ans : Naming} → ans ≡ answer_of p q c census.place → Answers x refs' found ans
+          pub answers : {ans : Returned ℕ} → ans ≡ answer_of p q c (unwrap_or census.tally.place 0) → Answers x refs' found ans
           unfolding refuse_at
           answers {ans} e = go (below_or_not p no_place) (below_or_not q no_place) (below_or_not max_names c)
             where
-              at : (o : Naming) → o ≡ answer_of p q c census.place → Answers x refs' found o → Answers x refs' found ans
+              at : (o : Returned ℕ) → o ≡ answer_of p q c (unwrap_or census.tally.place 0) → Answers x refs' found o → Answers x refs' found ans
               at o f g = subst (Answers x refs' found) (f ∙ sym e) g
 
               -- behind 6 and 7
@@ -242,14 +236,14 @@ module _
 
               go : (p < no_place) ⊎ (no_place ≤ p) → (q < no_place) ⊎ (no_place ≤ q) → (max_names < c) ⊎ (c ≤ max_names) → Answers x refs' found ans
               go (inl lp) y z =
-                  at (Refused 6 p) (answer-hidden p q c census.place lp)
+                  at (Err (refusal 6 p)) (answer-hidden p q c (unwrap_or census.tally.place 0) lp)
                   (record { says = ap (λ o. refuse_at 6 o (refuse_at 7 (declared_again x) (refuse_at 8 (too_many x) (Done x)))) (not-visible ∙ place_some p lp) })
               go (inr lp) (inl lq) z =
-                  at (Refused 7 q) (answer-again p q c census.place refl lp lq)
+                  at (Err (refusal 7 q)) (answer-again p q c (unwrap_or census.tally.place 0) refl lp lq)
                   (record { says = ap₂ (λ o u. refuse_at 6 o (refuse_at 7 u (refuse_at 8 (too_many x) (Done x)))) (not-visible ∙ place_none p lp) (declared-again ∙ place_some q lq) })
               go (inr lp) (inr lq) (inl lc) =
-                  at (Refused 8 census.place) (answer-many p q c census.place refl lp lq lc)
+                  at (Err (refusal 8 (unwrap_or census.tally.place 0))) (answer-many p q c (unwrap_or census.tally.place 0) refl lp lq lc)
                   (record { says = later lp lq ∙ ap (λ o. refuse_at 8 o (Done x)) (too-many-some lc) })
               go (inr lp) (inr lq) (inr lc) =
-                  at (Named c) (answer-named p q c census.place refl lp lq lc)
+                  at (Ok c) (answer-named p q c (unwrap_or census.tally.place 0) refl lp lq lc)
                   (record { says = (later lp lq ∙ ap (λ o. refuse_at 8 o (Done x)) (too-many-none lc), resolved lp lq lc) })

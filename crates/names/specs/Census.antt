@@ -1,5 +1,5 @@
 -- The declared names of a text: what is asked for before they are read, and what is known of them then.
-use Rattle.std.specs.Prelude.{ℕ, ◌≤◌, List, ◌≡◌, length}
+use Rattle.std.specs.Prelude.{ℕ, ◌≤◌, List, ◌≡◌, length, unwrap_or}
 use Rattle.language.specs.Limits.{max_names}
 use Rattle.language.specs.Names.{doubled}
 use Rattle.language.proofs.Laws.Basics.Lists.{All}
@@ -26,4 +26,4 @@ pub record Declared {w ids : List ℕ} {entries : ℕ} (h : Walkable w ids entri
   pub doubles : place_of census.again ≡ doubled (declared_from h Kind.parameter 0)
   pub shown : Table h seen (least (declared_from h Kind.signal 0))
   pub placed : All Placed (declared_from h Kind.signal 0)
-  pub numbered : Numbered h entries table found census.count census.place
+  pub numbered : Numbered h entries table found census.tally.count (unwrap_or census.tally.place 0)

@@ -1,7 +1,8 @@
 -- Refusals 6, 7 and 8 of a stored tree, and what each name of it refers to.
-use Rattle.std.specs.Prelude.{ℕ, ◌≤◌, ◌<◌, List, true, ◌≡◌, length, get_or}
+use Rattle.std.specs.Prelude.{ℕ, ◌≤◌, ◌<◌, List, true, ◌≡◌, length, get_or, Ok, Err}
 use Rattle.std.proofs.Math.Option.{none}
 use Rattle.node.specs.Result.{Result, Done, Refused as RefusedAt}
+use Rattle.node.specs.Returned.{Returned}
 use Rattle.language.specs.Limits.{max_tokens, max_names}
 use Rattle.language.specs.Tokens.{tokens}
 use Rattle.language.specs.Tree.{Spec}
@@ -14,8 +15,6 @@ use Rattle.spellings.specs.Interned.{Lexed}
 use Rattle.names.specs.Walkable.{names, entry_of}
 use Rattle.names.specs.Walking.{refers_to}
 use Rattle.names.specs.References.{last_first, Where}
-use Rattle.names.specs.declared.Naming.{Naming}
-use Rattle.names.specs.declared.Naming.TheVariants.{Named, Refused}
 
 -- a text's tree in the work buffer, behind its tokens
 pub record Stored (text w : List ℕ) (count entries : ℕ) (x : Spec) : Type 0 where
@@ -46,9 +45,9 @@ pub record Resolved (x : Spec) (refs found : List ℕ) (n : ℕ) : Type 0 where
   pub refers : (i : ℕ) → i < length (outline x) → names (entry_of (outline x) i).kind ≡ true → get_or refs i 0 ≡ refers_to (declared_names x) (outline x) i
   pub entries : Where (outline x) found (declared_names x)
 
-abbrev pub Says : Spec → List ℕ → List ℕ → Naming → Type 0
-Says x refs found (Named n) = (naming x ≡ Done x) × Resolved x refs found n
-Says x refs found (Refused number place) = naming x ≡ RefusedAt number place
+abbrev pub Says : Spec → List ℕ → List ℕ → Returned ℕ → Type 0
+Says x refs found (Ok n) = (naming x ≡ Done x) × Resolved x refs found n
+Says x refs found (Err r) = naming x ≡ RefusedAt r.number r.place
 
-pub record Answers (x : Spec) (refs found : List ℕ) (r : Naming) : Type 0 where
+pub record Answers (x : Spec) (refs found : List ℕ) (r : Returned ℕ) : Type 0 where
   pub says : Says x refs found r

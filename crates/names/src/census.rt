@@ -3,15 +3,14 @@ ghost use Rattle.names.specs.Walkable.{Walkable};
 ghost use Rattle.names.specs.Census.{Blanks, Undeclared, Declared};
 
 use crate::declare::declare;
-use crate::numbering::number_declared;
+use crate::numbering::{Tally, number_declared};
 use entries::kinds;
 
-// The first place where two of them meet, how many they are, and where the 257th stands, if there is one.
+// The first place where two of them meet, and how many they are.
 #[derive(Clone, Copy)]
 pub struct Census {
     pub again: u32,
-    pub count: usize,
-    pub place: u32,
+    pub tally: Tally,
 }
 
 // The smallest places of all declared names in `met`, and of signals and buses in `seen`; the numbers of all in `table`, and their entries in `found`. It asks for
@@ -32,9 +31,5 @@ pub fn declare_all(
     let again = declare(work, ids, entries, kinds::PARAMETER, met);
     declare(work, ids, entries, kinds::SIGNAL, seen);
     let tally = number_declared(work, ids, entries, table, found);
-    Census {
-        again,
-        count: tally.count,
-        place: tally.place,
-    }
+    Census { again, tally }
 }

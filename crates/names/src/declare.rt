@@ -7,11 +7,10 @@ ghost use Rattle.names.specs.Walkable.{Walkable, Table};
 ghost use Rattle.names.specs.Meeting.{Met};
 
 use crate::entry::{Name, declares, name_at};
-use basics::u16_u32::wide;
-use basics::{larger, smaller};
 use entries::fields::kind_at;
 
-// Above every place: no place (specs/Tables), as tables hold it where no name is, and as a number of its own.
+// Above every place: no place (specs/Tables), as tables hold it where no name is, and as a number of its own. A number and no Option: over what tables hold the first
+// place and the later of two are a minimum and a maximum; `hidden_place` and `answer` alone ask whether there is one.
 pub const NO_PLACE: u16 = 65535;
 
 pub const NOWHERE: u32 = NO_PLACE as u32;
@@ -35,9 +34,9 @@ fn declare_one(
         return place;
     }
     let Name { at, id } = name_at(work, ids, k);
-    let seen = wide(table[id]);
-    table[id] = smaller(seen, at) as u16;
-    smaller(place, larger(seen, at))
+    let seen = u32::from(table[id]);
+    table[id] = seen.min(at) as u16;
+    place.min(seen.max(at))
 }
 
 // The first place where two declared names of the kinds from `low` on meet; the table then holds their smallest places. `low` is that of parameters, for all
@@ -47,9 +46,7 @@ pub fn declare(work: &[u8], ids: &[u16], entries: usize, low: u32, table: &mut [
     ensures { (h : Walkable work.now ids.now entries) → Table h table.old (λ t. no_place) → Met h low 0 table.new result }
 {
     let mut place = NOWHERE;
-    let mut k = entries;
-    while k > 0 {
-        k -= 1;
+    for k in (0..entries).rev() {
         place = declare_one(work, ids, entries, low, k, place, table);
     }
     place

@@ -4,7 +4,6 @@ ghost use Rattle.language.specs.Limits.{max_tokens, work_bytes};
 ghost use Rattle.names.specs.Roles as Roles;
 ghost use Rattle.names.specs.OwnName.{OwnName};
 
-use basics::u16_usize::wide;
 use entries::fields::token_at;
 use entries::kinds;
 use lexer::fields::place_at;
@@ -24,7 +23,7 @@ pub fn name_at(work: &[u8], ids: &[u16], k: usize) -> Name
     let j = token_at(work, k);
     Name {
         at: place_at(work, j),
-        id: wide(ids[j]),
+        id: usize::from(ids[j]),
     }
 }
 

@@ -1,5 +1,5 @@
 // Declared names by their numbers in the text's order: refusal 8.
-ghost use Rattle.std.specs.Prelude.{◌+◌, ◌≤◌, ◌<◌, length};
+ghost use Rattle.std.specs.Prelude.{◌≡◌, ◌+◌, ◌≤◌, ◌<◌, length, is_some, unwrap_or, nat_lt};
 ghost use Rattle.language.specs.Limits.{max_names};
 ghost use Rattle.spellings.specs.Interned.{top};
 ghost use Rattle.names.specs.Tables.{no_place};
@@ -15,7 +15,8 @@ use language::limits;
 #[derive(Clone, Copy)]
 pub struct Tally {
     pub count: usize,
-    pub place: u32,
+    pub place: Option<u32>,
+    pub ghost told: { is_some place ≡ nat_lt max_names count },
 }
 
 // One entry more, k: a name that it declares gets the next number, and `found` holds the entry at that number. Only `number_declared` calls it, with what it was given itself.
@@ -29,8 +30,8 @@ fn number_one(
     found: &mut [u16],
 ) -> Tally
     requires { Walkable work.now ids.now entries × (k < entries) × (before.count ≤ k) × (top ids.now ≤ length table.old) × (max_names ≤ length found.old) }
-    ensures { ((h : Walkable work.now ids.now entries) → Numbered h k table.old found.old before.count before.place
-        → Numbered h (k + 1) table.new found.new result.count result.place) × (result.count ≤ k + 1) }
+    ensures { ((h : Walkable work.now ids.now entries) → Numbered h k table.old found.old before.count (unwrap_or before.place 0)
+        → Numbered h (k + 1) table.new found.new result.count (unwrap_or result.place 0)) × (result.count ≤ k + 1) }
 {
     let kind = kind_at(work, k);
     if !declares(kinds::PARAMETER, kind) {
@@ -50,7 +51,7 @@ fn number_one(
     if count == limits::MAX_NAMES {
         return Tally {
             count: count + 1,
-            place: at,
+            place: Some(at),
         };
     }
     Tally {
@@ -69,13 +70,14 @@ pub fn number_declared(
 ) -> Tally
     requires { Walkable work.now ids.now entries × (top ids.now ≤ length table.old) × (max_names ≤ length found.old) }
     ensures { (h : Walkable work.now ids.now entries) → Table h table.old (λ t. no_place)
-        → Numbered h entries table.new found.new result.count result.place }
+        → Numbered h entries table.new found.new result.count (unwrap_or result.place 0) }
 {
-    let mut tally = Tally { count: 0, place: 0 };
-    let mut k = 0;
-    while k < entries {
+    let mut tally = Tally {
+        count: 0,
+        place: None,
+    };
+    for k in 0..entries {
         tally = number_one(work, ids, entries, k, tally, table, found);
-        k += 1;
     }
     tally
 }

@@ -10,7 +10,6 @@ ghost use Rattle.names.specs.States.{Stands, GoesOn, Begins, WalksAll};
 
 use crate::declare::NOWHERE;
 use crate::entry::{Name, binds, declares, ends, name_at, uses};
-use basics::{larger, smaller, u16_u32, u16_usize};
 use entries::fields::kind_at;
 use entries::kinds;
 use language::limits;
@@ -47,11 +46,11 @@ fn use_name(
 {
     let k = walk.next;
     let Name { at, id } = name_at(work, ids, k);
-    let hidden = hidden_place(u16_u32::wide(seen[id]), at);
+    let hidden = hidden_place(u32::from(seen[id]), at);
     refs[k] = table[id];
     Walk {
         next: k + 1,
-        hidden: smaller(walk.hidden, hidden),
+        hidden: walk.hidden.min(hidden),
         ..walk
     }
 }
@@ -73,7 +72,7 @@ fn declare_name(
     let k = walk.next;
     let Name { at, id } = name_at(work, ids, k);
     refs[k] = table[id];
-    seen[id] = smaller(u16_u32::wide(seen[id]), at) as u16;
+    seen[id] = u32::from(seen[id]).min(at) as u16;
     Walk {
         next: k + 1,
         ..walk
@@ -97,19 +96,19 @@ fn bind_name(
     let k = walk.next;
     let Name { at, id } = name_at(work, ids, k);
     let depth = walk.depth;
-    let place = u16_u32::wide(seen[id]);
+    let place = u32::from(seen[id]);
     let top = 3 * depth;
     let slot = (limits::MAX_NAMES + depth) as u16;
     stack[top] = id as u16;
     stack[top + 1] = seen[id];
     stack[top + 2] = table[id];
-    seen[id] = smaller(place, at) as u16;
+    seen[id] = place.min(at) as u16;
     table[id] = slot;
     refs[k] = slot;
     Walk {
         next: k + 1,
         depth: depth + 1,
-        again: smaller(walk.again, larger(place, at)),
+        again: walk.again.min(place.max(at)),
         ..walk
     }
 }
@@ -130,7 +129,7 @@ fn end_name(
 {
     let depth = walk.depth - 1;
     let top = 3 * depth;
-    let id = u16_usize::wide(stack[top]);
+    let id = usize::from(stack[top]);
     seen[id] = stack[top + 1];
     table[id] = stack[top + 2];
     Walk {
@@ -194,6 +193,7 @@ pub fn walk_all(
         hidden: NOWHERE,
         again: NOWHERE,
     };
+    // The entry that is next stands in the state: what each step asks for and leaves is said of it (specs/States).
     while walk.next < entries {
         walk = visit(work, ids, entries, walk, seen, table, stack, refs);
     }

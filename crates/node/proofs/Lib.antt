@@ -1,5 +1,6 @@
 pub mod TableLaws
 pub mod ResultLaws
+pub mod ReturnedLaws
 pub mod WrittenLaws
 pub mod KindLaws
 pub mod LogicLaws

@@ -9,6 +9,7 @@ pub mod BitFields
 pub mod Fields
 pub mod Kinds
 pub mod Result
+pub mod Returned
 pub mod Answer
 pub mod Table
 pub mod Formed

@@ -14,12 +14,15 @@ ghost use Rattle.node.specs.Result.{Refused};
 
 use basics::either;
 
-// What every entry point answers: accepted with two counts, of nodes and of signals unless the function says which, or refused with number and place.
-#[derive(Clone, Copy)]
-pub enum Answer {
-    Accepted(u32, u32),
-    Refused(u32, u32),
+// Why a call is refused, by its number in `refusals`, and at which place.
+#[derive(Clone, Copy, PartialEq, Eq)]
+pub struct Refusal {
+    pub number: u32,
+    pub place: u32,
 }
+
+// What every entry point answers: two counts, of nodes and of signals unless the function says which, or a refusal.
+pub type Answer = Result<(u32, u32), Refusal>;
 
 // A table has 1 to 8,192 nodes.
 pub const MAX_NODES: usize = 8192;
@@ -52,6 +55,7 @@ pub struct Node {
 }
 
 impl Node {
+    // Numbers and no enum: a node's word holds the kind in four bits, of which a stranger's table may have all sixteen (kind_of, node_fits).
     pub const TRUE: u32 = 0;
 
     pub const FALSE: u32 = 1;
@@ -179,10 +183,8 @@ fn all_fit(nodes: &[u32], limit: u32) -> bool
     ensures { result ≡ all_fit limit 0 nodes.now }
 {
     let mut fit = true;
-    let mut i = 0;
-    while i < nodes.len() {
-        fit = fit & node_fits(nodes[i], i as u32, limit);
-        i += 1;
+    for (i, word) in nodes.iter().enumerate() {
+        fit &= node_fits(*word, i as u32, limit);
     }
     fit
 }
@@ -192,11 +194,12 @@ fn first_misfit(nodes: &[u32], limit: u32) -> usize
     requires { (length nodes.now ≤ max_nodes) × (all_fit limit 0 nodes.now ≡ false) }
     ensures { (result ≤ max_nodes) × (scanned limit 0 nodes.now (counted limit nodes.now) ≡ Refused 19 result) }
 {
-    let mut i = 0;
-    while node_fits(nodes[i], i as u32, limit) {
-        i += 1;
+    for (i, word) in nodes.iter().enumerate() {
+        if !node_fits(*word, i as u32, limit) {
+            return i;
+        }
     }
-    i
+    nodes.len()
 }
 
 // Is the table one of the format, its signal numbers below `limit`? Accepted with the number of nodes and the limit.
@@ -204,14 +207,23 @@ pub fn check_table(nodes: &[u32], limit: u32) -> Answer
     ensures { says result ≡ checked limit nodes.now }
 {
     if nodes.len() == 0 {
-        return Answer::Refused(refusals::BAD_TABLE, 0);
+        return Err(Refusal {
+            number: refusals::BAD_TABLE,
+            place: 0,
+        });
     }
     if MAX_NODES < nodes.len() {
-        return Answer::Refused(refusals::BAD_TABLE, MAX_NODES as u32);
+        return Err(Refusal {
+            number: refusals::BAD_TABLE,
+            place: MAX_NODES as u32,
+        });
     }
     if all_fit(nodes, limit) {
-        return Answer::Accepted(nodes.len() as u32, limit);
+        return Ok((nodes.len() as u32, limit));
     }
     let place = first_misfit(nodes, limit);
-    Answer::Refused(refusals::BAD_TABLE, place as u32)
+    Err(Refusal {
+        number: refusals::BAD_TABLE,
+        place: place as u32,
+    })
 }

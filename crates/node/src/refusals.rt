@@ -2,6 +2,7 @@
 ghost use Rattle.std.specs.Prelude.{◌≡◌};
 ghost use Rattle.node.specs.Refusals.{refusals as refusals'};
 
+// Numbers and no enum: the definitions (node/specs/Result) and the interface for C tell a refusal by its number.
 // The text is too long.
 pub const TOO_LONG: u32 = 1;
 

@@ -50,23 +50,17 @@ pub fn choose(
 {
     let mut heading = headings::NO_HEADING;
     let mut at = from;
-    let mut i: usize = 0;
-    while i < entries {
+    for i in 0..entries {
         let word = entry_word(work, i);
         let kind = word / SIZES / TOKENS;
         if kind == kinds::HEADING {
             heading = word % SIZES;
-            i += 1;
             continue;
         }
-        let taken = takes(wanted, low, high, heading, kind);
-        if taken {
+        if takes(wanted, low, high, heading, kind) {
             store(order, at, i as u16);
             at += 1;
-            i += 1;
-            continue;
         }
-        i += 1;
     }
     at
 }

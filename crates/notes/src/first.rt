@@ -11,7 +11,6 @@ ghost use Rattle.notes.specs.Noting.{Sorted, NotesGiven, NoteIs};
 
 use crate::Note;
 use crate::choose::entry_word;
-use basics::u16_usize::wide;
 use entries::fields::{SIZES, TOKENS};
 use entries::kinds;
 use language::limits;
@@ -22,45 +21,27 @@ fn note_of(kind: u32, k: usize) -> Note
     requires { k < max_tokens }
     ensures { Sorted kind k result.sort result.number }
 {
-    if kind == kinds::DEFINITION {
-        if k < 1 {
-            return Note {
-                sort: sorts::BODY,
-                number: 0,
-            };
-        }
-        return Note {
+    match kind {
+        kinds::DEFINITION => Note {
             sort: sorts::BODY,
-            number: (k - 1) as u32,
-        };
-    }
-    if kind == kinds::IDENTIFIER {
-        return Note {
+            number: k.saturating_sub(1) as u32,
+        },
+        kinds::IDENTIFIER => Note {
             sort: sorts::IDENTIFIER,
             number: k as u32,
-        };
-    }
-    if kind == kinds::SIGNAL {
-        return Note {
+        },
+        kinds::SIGNAL => Note {
             sort: sorts::SIGNAL,
             number: 0,
-        };
-    }
-    if kind < kinds::BUS {
-        return Note {
+        },
+        kinds::BUS | kinds::TYPED => Note {
+            sort: sorts::BUS,
+            number: 0,
+        },
+        _ => Note {
             sort: sorts::NOTHING,
             number: 0,
-        };
-    }
-    if kind > kinds::TYPED {
-        return Note {
-            sort: sorts::NOTHING,
-            number: 0,
-        };
-    }
-    Note {
-        sort: sorts::BUS,
-        number: 0,
+        },
     }
 }
 
@@ -76,7 +57,7 @@ fn first_note(work: &[u8], found: &[u16], names: usize, r: usize) -> Note
             number: 0,
         };
     }
-    let k = wide(found[r]);
+    let k = usize::from(found[r]);
     let kind = entry_word(work, k) / SIZES / TOKENS;
     note_of(kind, k)
 }
@@ -87,11 +68,9 @@ pub fn note_names(work: &[u8], found: &[u16], names: usize, sorts: &mut [u8], nu
     ensures { (text refs : List ℕ) (count entries : ℕ) (x : Spec) → Stored text work.now count entries x → Resolved x refs found.now names
         → Notes (tokens text) work.now (world_in x [] (first_table x)) sorts.new numbers.new }
 {
-    let mut r: usize = 0;
-    while r < limits::MAX_NAMES {
+    for r in 0..limits::MAX_NAMES {
         let note = first_note(work, found, names, r);
         sorts[r] = note.sort;
         numbers[r] = note.number;
-        r += 1;
     }
 }

@@ -6,6 +6,7 @@ pub mod choose;
 pub mod first;
 
 // What is noted of a name: its sort, and a number.
+// The sort is a number (name_values::sorts), as tables of bytes that the caller lends hold it.
 #[derive(Clone, Copy)]
 pub struct Note {
     pub sort: u8,

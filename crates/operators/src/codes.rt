@@ -2,6 +2,7 @@
 ghost use Rattle.std.specs.Prelude.{◌≡◌};
 ghost use Rattle.operators.specs.Codes.{codes as codes'};
 
+// Numbers and no enum: a row of an operator packs its number with its level and its role (specs/Codes).
 pub const PLUS: u32 = 0;
 
 pub const MINUS: u32 = 1;

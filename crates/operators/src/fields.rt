@@ -7,6 +7,7 @@ use crate::{infixes, prefixes};
 // The lowest field of each row is its level: how many numbers there are for one.
 pub const LEVELS: u32 = 32;
 
+// A list of constants of its own, like `codes` of crate types: no twin.
 // What the constants stand for.
 pub fn fields() -> [u32; 13]
     ensures { result ≡ fields' }

@@ -19,6 +19,7 @@ pub const ROLE: u32 = LEVELS;
 // The roles, and how many numbers there are for them.
 pub const ROLES: u32 = 8;
 
+// Numbers and no enum: a row packs the role with the operator's number and its level.
 pub const PLAIN: u32 = 1;
 
 pub const COUNTED: u32 = 2;

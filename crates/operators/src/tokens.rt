@@ -2,6 +2,7 @@
 ghost use Rattle.std.specs.Prelude.{◌≡◌};
 ghost use Rattle.operators.specs.Tokens.{tokens as tokens'};
 
+// Numbers and no enum: the words of tokens in the work buffer hold them, and Tokens states them.
 // `<->`
 pub const EQUIVALENCE: u32 = 5;
 

@@ -6,7 +6,6 @@
 ghost use Rattle.std.specs.Prelude.{◌≡◌};
 ghost use Rattle.ordering.specs.Ordering.{arity_of, next_of, Readable, Orderable, Orders};
 
-use basics::u16_u32::wide;
 use node::{MAX_NODES, Node};
 use shared_table::put;
 
@@ -43,14 +42,14 @@ fn next_of(word: u32, memo: &[u16; MAX_NODES]) -> Next
     if operands == 0 {
         return Next::Word(word);
     }
-    let first = wide(memo[a]);
+    let first = u32::from(memo[a]);
     if first == 0 {
         return Next::Operand(a);
     }
     if operands == 1 {
         return Next::Word(Node::unary(kind, first - 1).word);
     }
-    let second = wide(memo[b]);
+    let second = u32::from(memo[b]);
     if second == 0 {
         return Next::Operand(b);
     }
@@ -67,6 +66,7 @@ pub fn order(nodes: &[u32], root: usize, out: &mut [u32]) -> usize
     let mut waiting = [0u16; MAX_NODES];
     let mut depth = 0;
     let mut i = root;
+    // From a node to its operand and back: no index counts.
     loop {
         let next = next_of(nodes[i], &memo);
         match next {
@@ -85,7 +85,7 @@ pub fn order(nodes: &[u32], root: usize, out: &mut [u32]) -> usize
                 }
                 memo[i] = written as u16;
                 depth -= 1;
-                i = wide(waiting[depth]) as usize;
+                i = usize::from(waiting[depth]);
             }
         }
     }

@@ -1,7 +1,9 @@
 -- The tokens of a text that the lexer has stored are what the parser asks for.
-use Rattle.std.specs.Prelude.{ℕ, zero, suc, ◌≤◌, ◌<◌, List, [], ◌∷◌, true, false, ◌≡◌, refl, length, drop}
+use Rattle.std.specs.Prelude.{ℕ, zero, suc, ◌≤◌, ◌<◌, List, [], ◌∷◌, true, false, ◌≡◌, refl, Ok, Err, length, drop}
 use Rattle.std.proofs.Common.{arith, sym, ◌∙◌, subst}
 use Rattle.std.proofs.Math.Path.{ap}
+use Rattle.node.specs.declared.Refusal.{Refusal}
+use Rattle.node.specs.Returned.{Returned, refusal}
 use Rattle.node.specs.Result.{Result, Done, Refused, ◌>>=◌}
 use Rattle.words.specs.Words.{past}
 use Rattle.words.specs.ClearingLaws.{past-later}
@@ -13,18 +15,13 @@ use Rattle.language.specs.Sections.{spec_of}
 use Rattle.language.proofs.Laws.Grammar.TokenLaws.{Ends, tokens-end}
 use Rattle.lexer.specs.Lexing.{lexing, Lexical}
 use Rattle.lexer.specs.LexingLaws.{lexical, token-stands, token-right}
-use Rattle.lexer.specs.declared.Lexed.{Lexed as Lexing}
-use Rattle.lexer.specs.declared.Lexed.TheVariants.{Tokens as Stored, Refused as NotStored}
 use Rattle.lexer.specs.Answer.{Answers, Tokenized, Lexes, token_bytes}
 use Rattle.entries.specs.Cursors.{Tells}
 use Rattle.entries.specs.Reads.{Kept}
-use Rattle.parser.specs.declared.Facts.{Facts}
 use Rattle.parser.specs.declared.Outline.{Outline}
-use Rattle.parser.specs.declared.Outline.TheVariants.{Accepted as Drawn, Refused as NotDrawn}
 use Rattle.parser.specs.Outlines.{Lexed, Outlined, Answer}
 use Rattle.outline.specs.declared.TextOutline.{TextOutline}
-use Rattle.outline.specs.declared.TextOutline.TheVariants.{Accepted, Refused as NotAccepted}
-use Rattle.outline.specs.Outlining.{unread, unparsed, Says, Outlining}
+use Rattle.outline.specs.Outlining.{Says, Outlining}
 
 -- the last token is the text's end
 last-token : (n : ℕ) (ts : Tokens) → Ends n ts → ((i : ℕ) → i < length ts → is_of Wrong (front (drop i ts)) ≡ false) → (k : ℕ) → suc k ≡ length ts
@@ -43,9 +40,9 @@ place-most n (t ∷ ts) h zero = h 0 (omega arith)
 place-most n (t ∷ ts) h (suc i) = place-most n ts (λ j l. h (suc j) (omega arith)) i
 
 -- the parser's answer, with the number of tokens
-abbrev counted : ℕ → Outline → TextOutline
-counted n (Drawn m f) = Accepted n m f
-counted n (NotDrawn number place) = NotAccepted number place
+abbrev counted : ℕ → Returned Outline → Returned TextOutline
+counted n (Ok o) = Ok (record { tokens = n; entries = o.entries; facts = o.facts })
+counted n (Err r) = Err r
 
 module _ {text v : List ℕ} {n : ℕ} (h : Tokenized text v n) where
   texts : Lexical text (tokens text)
@@ -84,14 +81,14 @@ module _ {text v : List ℕ} {n : ℕ} (h : Tokenized text v n) where
       }
 
   -- the parser's answer by the cases of the definition's
-  says : {z : List ℕ} (x : Result Spec) (o : Outline) → spec_of (tokens text) ≡ x → Kept v z 0 → Answer (tokens text) z x o → Says text z (counted n o)
+  says : {z : List ℕ} (x : Result Spec) (o : Returned Outline) → spec_of (tokens text) ≡ x → Kept v z 0 → Answer (tokens text) z x o → Says text z (counted n o)
   says {z} (Done x) o e k d =
       subst (λ o. Says text z (counted n o)) (sym d.accepted)
       (record { tree = x; lexed = still k; read = e; total = refl; few = d.few; stored = d.entries; facts = refl })
   says {z} (Refused number place) o e k d = subst (λ o. Says text z (counted n o)) (sym d) (then_done ∙ e)
 
-  module _ {w z : List ℕ} {o : Outline} (size : length v ≡ length w) (kept : past token_bytes v ≡ past token_bytes w) (f : (ts : Tokens) → Tells ts v n (length text) → Outlined ts v z o) where
-    answered : {r : TextOutline} → r ≡ counted n o → Outlining text w z r
+  module _ {w z : List ℕ} {o : Returned Outline} (size : length v ≡ length w) (kept : past token_bytes v ≡ past token_bytes w) (f : (ts : Tokens) → Tells ts v n (length text) → Outlined ts v z o) where
+    answered : {r : Returned TextOutline} → r ≡ counted n o → Outlining text w z r
     answered e =
         let told = f (tokens text) tells in
         record {
@@ -100,25 +97,25 @@ module _ {text v : List ℕ} {n : ℕ} (h : Tokenized text v n) where
           beyond = told.kept.beyond ∙ past-later token_bytes work_bytes v w (omega arith) kept;
         }
 
-    pub outlined : {m : ℕ} {facts : Facts} → o ≡ Drawn m facts → Outlining text w z (Accepted n m facts)
+    pub outlined : {d : Outline} → o ≡ Ok d → Outlining text w z (Ok (record { tokens = n; entries = d.entries; facts = d.facts }))
     outlined e = answered (sym (ap (counted n) e))
 
     -- a refusal of the parser, handed up
-    pub not_outlined : {r : TextOutline} {number place : ℕ} → o ≡ NotDrawn number place → r ≡ unparsed o → Outlining text w z r
-    not_outlined e u = answered (u ∙ ap unparsed e ∙ sym (ap (counted n) e))
+    pub not_outlined : {r : Returned TextOutline} {e : Refusal} → o ≡ Err e → r ≡ Err e → Outlining text w z r
+    not_outlined e u = answered (u ∙ sym (ap (counted n) e))
 
 -- the lexer's answer by its cases
-module _ {text w v : List ℕ} {r : Lexing} (l : Lexes text w v r) where
-  pub tokenized : {n : ℕ} → r ≡ Stored n → Tokenized text v n
+module _ {text w v : List ℕ} {r : Returned ℕ} (l : Lexes text w v r) where
+  pub tokenized : {n : ℕ} → r ≡ Ok n → Tokenized text v n
   tokenized e = subst (Answers text v) e l.answer
 
-  refused : {n p : ℕ} → r ≡ NotStored n p → lexing text ≡ Refused n p
+  refused : {e : Refusal} → r ≡ Err e → lexing text ≡ Refused e.number e.place
   refused e = subst (Answers text v) e l.answer
 
-not-lexed : {text w v : List ℕ} {n p : ℕ} → lexing text ≡ Refused n p → length v ≡ length w → past token_bytes v ≡ past token_bytes w → Outlining text w v (NotAccepted n p)
+not-lexed : {text w v : List ℕ} {n p : ℕ} → lexing text ≡ Refused n p → length v ≡ length w → past token_bytes v ≡ past token_bytes w → Outlining text w v (Err (refusal n p))
 unfolding ◌>>=◌
 not-lexed {text} {w} {v} {n} {p} e size kept = record { says = ap (λ r. r >>= spec_of) e; size = size; beyond = past-later token_bytes work_bytes v w (omega arith) kept }
 
 -- a refusal of the lexer, handed up
-pub handed_up : {text w v : List ℕ} {l : Lexing} → Lexes text w v l → {r : TextOutline} {n p : ℕ} → l ≡ NotStored n p → r ≡ unread l → Outlining text w v r
-handed_up {text} {w} {v} h e u = subst (Outlining text w v) (sym (u ∙ ap unread e)) (not-lexed (refused h e) h.size h.kept)
+pub handed_up : {text w v : List ℕ} {l : Returned ℕ} → Lexes text w v l → {r : Returned TextOutline} {e : Refusal} → l ≡ Err e → r ≡ Err e → Outlining text w v r
+handed_up {text} {w} {v} h e u = subst (Outlining text w v) (sym u) (not-lexed (refused h e) h.size h.kept)

@@ -9,7 +9,7 @@ use Rattle.lexer.specs.Numbers.{numbered}
 use Rattle.entries.specs.Headings as Heading
 use Rattle.entries.specs.Flat.{each, flat_subsection}
 use Rattle.entries.specs.declared.Cursor.{Cursor}
-use Rattle.entries.specs.declared.Parse.{Parse}
+use Rattle.entries.specs.Parse.{Parse}
 use Rattle.entries.specs.Reads.{Parses}
 
 -- the row of a word, by the word's number

@@ -7,7 +7,7 @@ use Rattle.language.specs.Tree.{Model}
 use Rattle.language.specs.Grammar.{Tokens, Read, front, expect}
 use Rattle.language.specs.Sections.{described, model_of, strict_of, info_end}
 use Rattle.entries.specs.declared.Cursor.{Cursor}
-use Rattle.entries.specs.declared.Parse.{Parse}
+use Rattle.entries.specs.Parse.{Parse}
 use Rattle.entries.specs.Reads.{Parses, no_entries}
 use Rattle.parser.specs.Spelling.{Spells}
 

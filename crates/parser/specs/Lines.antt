@@ -6,7 +6,7 @@ use Rattle.language.specs.Grammar.{Tokens, Read}
 use Rattle.language.specs.Sections.{expression, parameter_of, definition_of, declaration_of, optional}
 use Rattle.entries.specs.Flat.{Entry, each, flat_parameter, flat_definition, flat_declaration, flat_line}
 use Rattle.entries.specs.declared.Cursor.{Cursor}
-use Rattle.entries.specs.declared.Parse.{Parse}
+use Rattle.entries.specs.Parse.{Parse}
 use Rattle.entries.specs.Reads.{Parses}
 use Rattle.parser.specs.Spelling.{Spells}
 use Rattle.parser.specs.declared.Line.{Line}

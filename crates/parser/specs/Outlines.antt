@@ -1,6 +1,8 @@
 -- A text's outline: what the parser answers, and what it leaves in the buffer.
-use Rattle.std.specs.Prelude.{ℕ, ◌≤◌, List, [], ◌++◌, ◌≡◌, length, drop}
+use Rattle.std.specs.Prelude.{ℕ, ◌≤◌, List, [], ◌++◌, ◌≡◌, eqb, length, drop, Ok, Err}
+use Rattle.node.specs.Returned.{Returned, refusal}
 use Rattle.node.specs.Result.{Result, Done, Refused, ◌>>=◌}
+use Rattle.language.specs.Bytes.{if◌then◌otherwise◌}
 use Rattle.language.specs.Limits.{max_tokens}
 use Rattle.language.specs.Models.{model_code}
 use Rattle.language.specs.Tree.{Subsection, Spec}
@@ -9,14 +11,11 @@ use Rattle.language.specs.Sections.{subsections_of, spec_of}
 use Rattle.entries.specs.Flat.{Entry, each, flat_subsection, outline}
 use Rattle.entries.specs.Stored.{EntriesFrom}
 use Rattle.entries.specs.declared.Cursor.{Cursor}
-use Rattle.entries.specs.Cursors.{Fits, Tells, Ready}
+use Rattle.entries.specs.Cursors.{Fits, Tells, Ready, number_at, refused_at}
 use Rattle.entries.specs.Reads.{Kept, Reads, no_entries}
-use Rattle.entries.specs.declared.Parse.{Parse}
-use Rattle.entries.specs.declared.Parse.TheVariants.{Parsed, Refused as NotParsed}
+use Rattle.entries.specs.Parse.{Parse}
 use Rattle.parser.specs.declared.Facts.{Facts}
-use Rattle.parser.specs.declared.Informed.{Informed}
 use Rattle.parser.specs.declared.Outline.{Outline}
-use Rattle.parser.specs.declared.Outline.TheVariants.{Accepted, Refused as NotAccepted}
 use Rattle.parser.specs.Parts.{Globals, globals_of, flat_globals}
 use Rattle.parser.specs.Information as Information
 
@@ -24,12 +23,17 @@ use Rattle.parser.specs.Information as Information
 abbrev pub told_of : Information.Info → Facts
 told_of i = record { semantics = model_code i.semantics; strict = i.strict; target = model_code i.target; place = i.target_word.at }
 
--- INFO is read as its definition says, without entries, and the facts are those of its value
-pub record Informs (ts : Tokens) (w : List ℕ) (c : Cursor) (x : Read Information.Info) (r : Informed) : Type 0 where
-  pub reads : Reads ts w w c no_entries x r.next
-  pub facts : (i : Information.Info) (us : Tokens) → x ≡ Done (i, us) → r.facts ≡ told_of i
+-- where the parser stands behind INFO
+abbrev pub behind : Returned (Facts × Cursor) → Parse
+behind (Ok (f, d)) = Ok d
+behind (Err r) = Err r
 
-abbrev pub ReadsInformation : List ℕ → Cursor → Informed → Type 0
+-- INFO is read as its definition says, without entries, and the facts are those of its value
+pub record Informs (ts : Tokens) (w : List ℕ) (c : Cursor) (x : Read Information.Info) (r : Returned (Facts × Cursor)) : Type 0 where
+  pub reads : Reads ts w w c no_entries x (behind r)
+  pub facts : (f : Facts) (d : Cursor) (i : Information.Info) (us : Tokens) → r ≡ Ok (f, d) → x ≡ Done (i, us) → f ≡ told_of i
+
+abbrev pub ReadsInformation : List ℕ → Cursor → Returned (Facts × Cursor) → Type 0
 ReadsInformation w c r = (ts : Tokens) → Ready ts w c → Informs ts w c (Information.information_of (drop c.at ts)) r
 
 -- GLOBAL and MAIN
@@ -43,6 +47,10 @@ sections_of ts = do
 
 abbrev pub flat_sections : Globals × List Subsection → List Entry
 flat_sections (g, m) = flat_globals g ++ each flat_subsection m
+
+-- the text's end, or no token that the grammar continues
+abbrev pub ended : List ℕ → Cursor → Parse
+ended w c = if eqb (number_at w c) 0 then Ok c otherwise refused_at w c
 
 -- the cursor before the first token
 abbrev pub start_of : ℕ → ℕ → Cursor
@@ -59,25 +67,20 @@ abbrev pub facts_of : Spec → Facts
 facts_of x = told_of (record { semantics = x.semantics; strict = x.strict; target = x.target; target_word = x.target_word })
 
 -- an accepted text: how many entries it has and what INFO says; the entries are written
-pub record Drawn (ts : Tokens) (v : List ℕ) (x : Spec) (r : Outline) : Type 0 where
-  pub accepted : r ≡ Accepted (length (outline x)) (facts_of x)
+pub record Drawn (ts : Tokens) (v : List ℕ) (x : Spec) (r : Returned Outline) : Type 0 where
+  pub accepted : r ≡ Ok (record { entries = length (outline x); facts = facts_of x })
   pub entries : EntriesFrom v ts 0 (outline x)
   pub few : length (outline x) ≤ max_tokens
 
-abbrev pub Answer : Tokens → List ℕ → Result Spec → Outline → Type 0
+abbrev pub Answer : Tokens → List ℕ → Result Spec → Returned Outline → Type 0
 Answer ts v (Done x) r = Drawn ts v x r
-Answer ts v (Refused n p) r = r ≡ NotAccepted n p
+Answer ts v (Refused n p) r = r ≡ Err (refusal n p)
 
 -- the answer of the grammar: `spec_of` of the tokens
-pub record Outlined (ts : Tokens) (w v : List ℕ) (r : Outline) : Type 0 where
+pub record Outlined (ts : Tokens) (w v : List ℕ) (r : Returned Outline) : Type 0 where
   pub kept : Kept w v 0
   pub says : Answer ts v (spec_of ts) r
 
 -- whatever the tokens are that the buffer holds
-abbrev pub Outlines : List ℕ → List ℕ → ℕ → ℕ → Outline → Type 0
+abbrev pub Outlines : List ℕ → List ℕ → ℕ → ℕ → Returned Outline → Type 0
 Outlines w v count end r = (ts : Tokens) → Tells ts w count end → Outlined ts w v r
-
--- 'A refusal met below is handed up unchanged'
-abbrev pub not_accepted : Parse → Outline
-not_accepted (NotParsed n p) = NotAccepted n p
-not_accepted (Parsed c) = NotAccepted 0 0

@@ -19,15 +19,13 @@ fn lines(c: Cursor, work: &mut [u8], which: Line) -> Parse
     ensures { Parses (λ ts. lines_of (length (rest ts)) (line_of which) (rest ts)) (each (flat_of which)) work.old work.new c result }
 {
     let mut d = c;
+    // A line at a time, up to a token.
     loop {
         let e = d.next();
         if e.number(work) == numbers::CLOSE_BRACE {
-            return Parse::Parsed(e.next());
+            return Ok(e.next());
         }
-        let r = line(d, work, which);
-        let Parse::Parsed(f) = r else {
-            return r;
-        };
+        let f = line(d, work, which)?;
         if f.number(work) != numbers::SEMICOLON {
             return f.expect(work, numbers::CLOSE_BRACE);
         }
@@ -52,7 +50,7 @@ fn optional(c: Cursor, work: &mut [u8], word: u32, which: Line) -> Parse
     ensures { ReadsOptional word which work.old work.new c result }
 {
     if c.number(work) != word {
-        return Parse::Parsed(c);
+        return Ok(c);
     }
     block(c.next(), work, which)
 }
@@ -63,19 +61,10 @@ pub fn global(c: Cursor, work: &mut [u8]) -> Parse
     ensures { Parses globals_of flat_globals work.old work.new c result }
 {
     if c.number(work) != numbers::GLOBAL {
-        return Parse::Parsed(c);
+        return Ok(c);
     }
-    let r = c.next().expect(work, numbers::OPEN_BRACE);
-    let Parse::Parsed(d) = r else {
-        return r;
-    };
-    let p = optional(d, work, numbers::PARAMETERS, Line::Parameters);
-    let Parse::Parsed(e) = p else {
-        return p;
-    };
-    let q = optional(e, work, numbers::DEFINITIONS, Line::Definitions);
-    let Parse::Parsed(f) = q else {
-        return q;
-    };
+    let d = c.next().expect(work, numbers::OPEN_BRACE)?;
+    let e = optional(d, work, numbers::PARAMETERS, Line::Parameters)?;
+    let f = optional(e, work, numbers::DEFINITIONS, Line::Definitions)?;
     f.expect(work, numbers::CLOSE_BRACE)
 }

@@ -16,13 +16,11 @@ fn words(c: Cursor, work: &mut [u8]) -> Parse
     ensures { Parses (λ ts. words_of (length ts) ts) (each flat_word) work.old work.new c result }
 {
     let mut d = c;
+    // A word at a time, up to a token.
     loop {
-        let r = leaf(d, work, numbers::MARKS, kinds::WORD);
-        let Parse::Parsed(e) = r else {
-            return r;
-        };
+        let e = leaf(d, work, numbers::MARKS, kinds::WORD)?;
         if e.number(work) != numbers::COMMA {
-            return Parse::Parsed(e);
+            return Ok(e);
         }
         d = e.next();
     }
@@ -33,14 +31,8 @@ fn identifier(c: Cursor, work: &mut [u8]) -> Parse
     requires { Readied work.old c }
     ensures { Parses identifier_of flat_identifier work.old work.new c result }
 {
-    let r = leaf(c, work, numbers::NAME, kinds::IDENTIFIER);
-    let Parse::Parsed(d) = r else {
-        return r;
-    };
-    let q = d.expect(work, numbers::COLON);
-    let Parse::Parsed(e) = q else {
-        return q;
-    };
+    let d = leaf(c, work, numbers::NAME, kinds::IDENTIFIER)?;
+    let e = d.expect(work, numbers::COLON)?;
     words(e, work)
 }
 
@@ -50,13 +42,11 @@ fn identifiers(c: Cursor, work: &mut [u8]) -> Parse
     ensures { Parses (λ ts. identifiers_of (length ts) ts) (each flat_identifier) work.old work.new c result }
 {
     let mut d = c;
+    // An identifier at a time, up to a token.
     loop {
-        let r = identifier(d, work);
-        let Parse::Parsed(e) = r else {
-            return r;
-        };
+        let e = identifier(d, work)?;
         if e.number(work) != numbers::NAME {
-            return Parse::Parsed(e);
+            return Ok(e);
         }
         d = e;
     }
@@ -67,13 +57,7 @@ pub fn enumeration(c: Cursor, work: &mut [u8]) -> Parse
     requires { Readied work.old c }
     ensures { Parses enumeration_of flat_definition work.old work.new c result }
 {
-    let r = leaf(c, work, numbers::NAME, kinds::ENUMERATION);
-    let Parse::Parsed(d) = r else {
-        return r;
-    };
-    let q = d.expect(work, numbers::EQUALS);
-    let Parse::Parsed(e) = q else {
-        return q;
-    };
+    let d = leaf(c, work, numbers::NAME, kinds::ENUMERATION)?;
+    let e = d.expect(work, numbers::EQUALS)?;
     identifiers(e, work)
 }

@@ -14,10 +14,7 @@ pub fn pair(c: Cursor, work: &[u8], first: u32, second: u32) -> Parse
     requires { Readied work.now c × (0 < first) × (0 < second) }
     ensures { ReadsPair first second work.now c result }
 {
-    let r = c.expect(work, first);
-    let Parse::Parsed(d) = r else {
-        return r;
-    };
+    let d = c.expect(work, first)?;
     d.expect(work, second)
 }
 
@@ -26,10 +23,7 @@ fn described(c: Cursor, work: &[u8], word: u32) -> Parse
     requires { Readied work.now c × Spelt word }
     ensures { ReadsDescribed word work.now c result }
 {
-    let r = pair(c, work, word, numbers::COLON);
-    let Parse::Parsed(d) = r else {
-        return r;
-    };
+    let d = pair(c, work, word, numbers::COLON)?;
     d.expect(work, numbers::QUOTED)
 }
 
@@ -37,14 +31,8 @@ fn titles(c: Cursor, work: &[u8]) -> Parse
     requires { Readied work.now c }
     ensures { Parses titles_of no_entries work.now work.now c result }
 {
-    let r = c.expect(work, numbers::OPEN_BRACE);
-    let Parse::Parsed(d) = r else {
-        return r;
-    };
-    let q = described(d, work, numbers::TITLE);
-    let Parse::Parsed(e) = q else {
-        return q;
-    };
+    let d = c.expect(work, numbers::OPEN_BRACE)?;
+    let e = described(d, work, numbers::TITLE)?;
     described(e, work, numbers::DESCRIPTION)
 }
 
@@ -53,10 +41,7 @@ pub fn to_semantics(c: Cursor, work: &[u8]) -> Parse
     requires { Readied work.now c }
     ensures { Parses to_semantics no_entries work.now work.now c result }
 {
-    let r = titles(c, work);
-    let Parse::Parsed(d) = r else {
-        return r;
-    };
+    let d = titles(c, work)?;
     pair(d, work, numbers::SEMANTICS, numbers::COLON)
 }
 
@@ -65,7 +50,7 @@ pub fn model(c: Cursor, work: &[u8]) -> Parse
     ensures { Parses model_of no_entries work.now work.now c result }
 {
     if c.number(work) == numbers::MEALY {
-        return Parse::Parsed(c.next());
+        return Ok(c.next());
     }
     c.expect(work, numbers::MOORE)
 }
@@ -76,7 +61,7 @@ fn strict(c: Cursor, work: &[u8]) -> Parse
     ensures { Parses strict_of no_entries work.now work.now c result }
 {
     if c.number(work) != numbers::COMMA {
-        return Parse::Parsed(c);
+        return Ok(c);
     }
     c.next().expect(work, numbers::STRICT)
 }
@@ -86,10 +71,7 @@ pub fn to_target(c: Cursor, work: &[u8]) -> Parse
     requires { Readied work.now c }
     ensures { Parses to_target no_entries work.now work.now c result }
 {
-    let r = strict(c, work);
-    let Parse::Parsed(d) = r else {
-        return r;
-    };
+    let d = strict(c, work)?;
     pair(d, work, numbers::TARGET, numbers::COLON)
 }
 
@@ -98,7 +80,7 @@ fn tag(c: Cursor, work: &[u8]) -> Parse
     ensures { Parses tag_of no_entries work.now work.now c result }
 {
     if c.number(work) == numbers::NAME {
-        return Parse::Parsed(c.next());
+        return Ok(c.next());
     }
     c.expect(work, numbers::QUOTED)
 }
@@ -109,13 +91,11 @@ fn tags(c: Cursor, work: &[u8]) -> Parse
     ensures { Parses (λ ts. tags_of (length ts) ts) no_entries work.now work.now c result }
 {
     let mut d = c;
+    // A tag at a time, up to a token.
     loop {
-        let r = tag(d, work);
-        let Parse::Parsed(e) = r else {
-            return r;
-        };
+        let e = tag(d, work)?;
         if e.number(work) != numbers::COMMA {
-            return Parse::Parsed(e);
+            return Ok(e);
         }
         d = e.next();
     }
@@ -129,14 +109,8 @@ fn info_end(c: Cursor, work: &[u8]) -> Parse
     if c.number(work) != numbers::TAGS {
         return c.expect(work, numbers::CLOSE_BRACE);
     }
-    let r = c.next().expect(work, numbers::COLON);
-    let Parse::Parsed(d) = r else {
-        return r;
-    };
-    let q = tags(d, work);
-    let Parse::Parsed(e) = q else {
-        return q;
-    };
+    let d = c.next().expect(work, numbers::COLON)?;
+    let e = tags(d, work)?;
     e.expect(work, numbers::CLOSE_BRACE)
 }
 
@@ -145,9 +119,6 @@ pub fn closing(c: Cursor, work: &[u8]) -> Parse
     requires { Readied work.now c }
     ensures { Parses closing_of no_entries work.now work.now c result }
 {
-    let r = model(c, work);
-    let Parse::Parsed(d) = r else {
-        return r;
-    };
+    let d = model(c, work)?;
     info_end(d, work)
 }

@@ -17,17 +17,14 @@ pub fn leaf(c: Cursor, work: &mut [u8], number: u32, kind: u32) -> Parse
     ensures { (k : Class) → Numbers k number → Parses (expect_of k) (flatLeaf kind) work.old work.new c result }
 {
     let token = c.at;
-    let r = c.expect(work, number);
-    let Parse::Parsed(d) = r else {
-        return r;
-    };
-    Parse::Parsed(d.emit(work, kind, token, 1))
+    let d = c.expect(work, number)?;
+    Ok(d.emit(work, kind, token, 1))
 }
 
 // An entry behind those of its operands: of all that was read from c to d.
-pub fn close(c: Cursor, d: Cursor, work: &mut [u8], kind: u32, token: usize) -> Parse
+pub fn close(c: Cursor, d: Cursor, work: &mut [u8], kind: u32, token: usize) -> Cursor
     requires { (c.out ≤ d.out) × Writes work.old d kind token (d.out - c.out + 1) }
-    ensures { (result ≡ Parse.Parsed (emitted_of d)) × (work.new ≡ put_entry work.old d.out kind token (d.out - c.out + 1)) }
+    ensures { (result ≡ emitted_of d) × (work.new ≡ put_entry work.old d.out kind token (d.out - c.out + 1)) }
 {
-    Parse::Parsed(d.emit(work, kind, token, d.out - c.out + 1))
+    d.emit(work, kind, token, d.out - c.out + 1)
 }

@@ -10,14 +10,15 @@ mod lines;
 mod subsections;
 
 ghost use Rattle.std.specs.Prelude.{◌≡◌};
-ghost use Rattle.entries.specs.Cursors.{Readied};
+ghost use Rattle.entries.specs.Cursors.{Fits, Readied};
 ghost use Rattle.entries.specs.Reads.{Parses};
-ghost use Rattle.parser.specs.Outlines.{ReadsInformation, sections_of, flat_sections, Lexed, Outlines, not_accepted};
+ghost use Rattle.parser.specs.Outlines.{ReadsInformation, sections_of, flat_sections, Lexed, Outlines, ended};
 
 use blocks::global;
 use entries::{Cursor, Parse};
 use info::{closing, model, to_semantics, to_target};
 use lexer::numbers;
+use node::Refusal;
 use subsections::subsections;
 
 // What the lines of a subsection are.
@@ -38,78 +39,33 @@ pub struct Facts {
     pub place: u32,
 }
 
-// What INFO says, and where the parser stands behind it. After a refusal the facts mean nothing.
+// An accepted text's number of entries and what its INFO says.
 #[derive(Clone, Copy)]
-pub struct Informed {
+pub struct Outline {
+    pub entries: usize,
     pub facts: Facts,
-    pub next: Parse,
 }
 
-// An accepted text's number of entries and what its INFO says, or a refusal's number and place.
-#[derive(Clone, Copy)]
-pub enum Outline {
-    Accepted(usize, Facts),
-    Refused(u32, u32),
-}
-
-// 'A refusal met below is handed up unchanged'.
-fn uninformed(r: Parse) -> Informed
-    ensures { result.next ≡ r }
-{
-    Informed {
-        facts: Facts {
-            semantics: 0,
-            strict: false,
-            target: 0,
-            place: 0,
-        },
-        next: r,
-    }
-}
-
-fn refused(r: Parse) -> Outline
-    ensures { result ≡ not_accepted r }
-{
-    match r {
-        Parse::Refused(number, place) => Outline::Refused(number, place),
-        Parse::Parsed(_) => Outline::Refused(0, 0),
-    }
-}
-
-// INFO after its word.
-fn information(c: Cursor, work: &[u8]) -> Informed
+// INFO after its word: what it says, and where the parser stands behind it.
+fn information(c: Cursor, work: &[u8]) -> Result<(Facts, Cursor), Refusal>
     requires { Readied work.now c }
     ensures { ReadsInformation work.now c result }
 {
-    let r = to_semantics(c, work);
-    let Parse::Parsed(d) = r else {
-        return uninformed(r);
-    };
+    let d = to_semantics(c, work)?;
     let semantics = d.number(work);
-    let p = model(d, work);
-    let Parse::Parsed(e) = p else {
-        return uninformed(p);
-    };
+    let e = model(d, work)?;
     let strict = e.number(work) == numbers::COMMA;
-    let q = to_target(e, work);
-    let Parse::Parsed(f) = q else {
-        return uninformed(q);
-    };
+    let f = to_target(e, work)?;
     let target = f.number(work);
     let place = f.place(work);
-    let s = closing(f, work);
-    let Parse::Parsed(_) = s else {
-        return uninformed(s);
+    let g = closing(f, work)?;
+    let facts = Facts {
+        semantics: semantics - numbers::MEALY,
+        strict,
+        target: target - numbers::MEALY,
+        place,
     };
-    Informed {
-        facts: Facts {
-            semantics: semantics - numbers::MEALY,
-            strict: strict,
-            target: target - numbers::MEALY,
-            place: place,
-        },
-        next: s,
-    }
+    Ok((facts, g))
 }
 
 // GLOBAL and MAIN.
@@ -117,48 +73,40 @@ fn sections(c: Cursor, work: &mut [u8]) -> Parse
     requires { Readied work.old c }
     ensures { Parses sections_of flat_sections work.old work.new c result }
 {
-    let r = global(c, work);
-    let Parse::Parsed(d) = r else {
-        return r;
-    };
-    let p = d.expect(work, numbers::MAIN);
-    let Parse::Parsed(e) = p else {
-        return p;
-    };
-    let q = e.expect(work, numbers::OPEN_BRACE);
-    let Parse::Parsed(f) = q else {
-        return q;
-    };
+    let d = global(c, work)?;
+    let e = d.expect(work, numbers::MAIN)?;
+    let f = e.expect(work, numbers::OPEN_BRACE)?;
     subsections(f, work)
 }
 
+// The text's end must stand here.
+fn ended(c: Cursor, work: &[u8]) -> Parse
+    requires { Fits work.now c }
+    ensures { result ≡ ended work.now c }
+{
+    if c.number(work) == 0 {
+        return Ok(c);
+    }
+    c.refuse(work)
+}
+
 // The outline of the tokens that stand in the first words of the buffer, `count` of them; the text has `end` bytes. The lexer has put them there.
-pub fn parse(work: &mut [u8], count: usize, end: usize) -> Outline
+pub fn parse(work: &mut [u8], count: usize, end: usize) -> Result<Outline, Refusal>
     requires { Lexed work.old count end }
     ensures { Outlines work.old work.new count end result }
 {
     let start = Cursor {
         at: 0,
         out: 0,
-        count: count,
-        end: end,
+        count,
+        end,
     };
-    let r = start.expect(work, numbers::INFO);
-    let Parse::Parsed(c) = r else {
-        return refused(r);
-    };
-    let informed = information(c, work);
-    let facts = informed.facts;
-    let p = informed.next;
-    let Parse::Parsed(d) = p else {
-        return refused(p);
-    };
-    let q = sections(d, work);
-    let Parse::Parsed(e) = q else {
-        return refused(q);
-    };
-    if e.number(work) != 0 {
-        return refused(e.refuse(work));
-    }
-    Outline::Accepted(e.out, facts)
+    let c = start.expect(work, numbers::INFO)?;
+    let (facts, d) = information(c, work)?;
+    let e = sections(d, work)?;
+    let f = ended(e, work)?;
+    Ok(Outline {
+        entries: f.out,
+        facts,
+    })
 }

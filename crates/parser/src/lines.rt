@@ -22,19 +22,10 @@ fn valued(c: Cursor, work: &mut [u8], kind: u32) -> Parse
     ensures { Parses parameter_of (flat_valued kind) work.old work.new c result }
 {
     let token = c.at;
-    let r = c.expect(work, numbers::NAME);
-    let Parse::Parsed(d) = r else {
-        return r;
-    };
-    let p = d.expect(work, numbers::EQUALS);
-    let Parse::Parsed(e) = p else {
-        return p;
-    };
-    let q = expression(e, work);
-    let Parse::Parsed(f) = q else {
-        return q;
-    };
-    close(c, f, work, kind, token)
+    let d = c.expect(work, numbers::NAME)?;
+    let e = d.expect(work, numbers::EQUALS)?;
+    let f = expression(e, work)?;
+    Ok(close(c, f, work, kind, token))
 }
 
 fn definition(c: Cursor, work: &mut [u8]) -> Parse
@@ -53,15 +44,9 @@ fn bus(c: Cursor, work: &mut [u8]) -> Parse
     ensures { Parses (λ ts. width_of (front ts) (rest (rest ts))) flat_declaration work.old work.new c result }
 {
     let token = c.at;
-    let r = expression(c.next().next(), work);
-    let Parse::Parsed(d) = r else {
-        return r;
-    };
-    let q = d.expect(work, numbers::CLOSE_BRACKET);
-    let Parse::Parsed(e) = q else {
-        return q;
-    };
-    close(c, e, work, kinds::BUS, token)
+    let d = expression(c.next().next(), work)?;
+    let e = d.expect(work, numbers::CLOSE_BRACKET)?;
+    Ok(close(c, e, work, kinds::BUS, token))
 }
 
 // A signal, a bus with its width, or a bus with its enumeration.
@@ -70,10 +55,7 @@ fn declaration(c: Cursor, work: &mut [u8]) -> Parse
     ensures { Parses declaration_of flat_declaration work.old work.new c result }
 {
     let token = c.at;
-    let r = c.expect(work, numbers::NAME);
-    let Parse::Parsed(d) = r else {
-        return r;
-    };
+    let d = c.expect(work, numbers::NAME)?;
     let number = d.number(work);
     if number == numbers::OPEN_BRACKET {
         return bus(c, work);
@@ -81,9 +63,9 @@ fn declaration(c: Cursor, work: &mut [u8]) -> Parse
     if number == numbers::NAME {
         let name = d.at;
         let e = d.next().emit(work, kinds::NAMED, token, 1);
-        return Parse::Parsed(e.emit(work, kinds::TYPED, name, 2));
+        return Ok(e.emit(work, kinds::TYPED, name, 2));
     }
-    Parse::Parsed(d.emit(work, kinds::SIGNAL, token, 1))
+    Ok(d.emit(work, kinds::SIGNAL, token, 1))
 }
 
 // A formula, from the `{` or `;` before it on: that token makes room for the line's own entry.
@@ -91,11 +73,8 @@ fn formula(c: Cursor, work: &mut [u8]) -> Parse
     requires { Readied work.old c × (c.at < c.count) }
     ensures { Parses (λ ts. expressionOf (rest ts)) flat_line work.old work.new c result }
 {
-    let r = expression(c.next(), work);
-    let Parse::Parsed(d) = r else {
-        return r;
-    };
-    close(c, d, work, kinds::LINE, 0)
+    let d = expression(c.next(), work)?;
+    Ok(close(c, d, work, kinds::LINE, 0))
 }
 
 // A line, from the `{` or `;` before it on.

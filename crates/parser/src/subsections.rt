@@ -63,6 +63,7 @@ pub fn subsections(c: Cursor, work: &mut [u8]) -> Parse
 {
     let mut before = [0u8; NO_HEADING];
     let mut d = c;
+    // A subsection at a time, up to a token.
     loop {
         let n = heading(d.number(work));
         if n == NO_HEADING {
@@ -71,10 +72,7 @@ pub fn subsections(c: Cursor, work: &mut [u8]) -> Parse
         if before[n] != 0 {
             return ending(d, work, before[0], before[1]);
         }
-        let r = subsection(d, work, n);
-        let Parse::Parsed(e) = r else {
-            return r;
-        };
+        let e = subsection(d, work, n)?;
         before[n] = 1;
         d = e;
     }

@@ -1,5 +1,5 @@
 -- The listing from port to port.
-use Rattle.std.specs.Prelude.{ℕ, ◌+◌, ◌≤◌, ◌<◌, max, List, [], ◌∷◌, ◌≡◌, refl, leb, length, get_or, set}
+use Rattle.std.specs.Prelude.{ℕ, ◌+◌, ◌≤◌, ◌<◌, max, List, [], ◌∷◌, ◌≡◌, refl, leb, length, get_or, set, Ok, Err}
 use Rattle.std.proofs.Math.Option.{some}
 use Rattle.std.proofs.Common.{sym, ap, ap₂, ◌∙◌, subst, add-one, arith, le-leb}
 use Rattle.std.proofs.lemmas.List.Edits.{sets}
@@ -16,7 +16,7 @@ use Rattle.ports.specs.Firsts.{numbered_from}
 use Rattle.ports.specs.EntryRuns.{run}
 use Rattle.ports.specs.EntryRunLaws.{entries-run}
 use Rattle.ports.specs.Listing.{Lists}
-use Rattle.ports.specs.declared.Signals.TheVariants.{Listed, TooMany}
+use Rattle.ports.specs.Signals.{too_many}
 use Rattle.basics.specs.Lists.{sets-append}
 
 module _ (R : Token → ℕ) (numbers offsets widths : List ℕ) (ins count : ℕ) (ps : List Port) (firsts₀ list₀ : List ℕ) where
@@ -43,7 +43,7 @@ module _ (R : Token → ℕ) (numbers offsets widths : List ℕ) (ins count : �
         let g : n + signals_of q ≡ n + m = ap (λ i. n + max 1 i) (sym w ∙ sym hw) ∙ ap (λ i. n + i) (sym hm) in
         leave (leb (n + signals_of q) max_signals) _ _ (ap (λ i. leb i max_signals) g ∙ lt-leb (n + m) max_signals l) ∙ ap some (sym p.0.offset ∙ sym ho)
 
-    pub going-over : Going j n firsts list → max_signals < n + m → Lists R ps (TooMany offset) firsts₀ list₀ firsts list
+    pub going-over : Going j n firsts list → max_signals < n + m → Lists R ps (Err (too_many offset)) firsts₀ list₀ firsts list
     going-over g l = record { says = g.many ∙ too_many_lem g.left g.ports g.total l }
 
     pub going_more : top ≡ flag (leb ins j) → n + m ≤ max_signals → Going j n firsts list → Going (j + 1) (n + m) (set firsts r n) (sets list n (run top offset width m 0))
@@ -69,10 +69,10 @@ module _ (R : Token → ℕ) (numbers offsets widths : List ℕ) (ins count : �
               numbered = d ∙ ap₂ (λ i s. numbered_from R (n + i) qs (set firsts s n)) same (sym p.0.number ∙ sym hr);
             }
 
-  pub going_all : (j n : ℕ) (firsts list : List ℕ) → count ≤ j → Going j n firsts list → Lists R ps (Listed n) firsts₀ list₀ firsts list
+  pub going_all : (j n : ℕ) (firsts list : List ℕ) → count ≤ j → Going j n firsts list → Lists R ps (Ok n) firsts₀ list₀ firsts list
   going_all j n firsts list l g = end g.left g.total g.many g.size g.stored g.numbered
     where
       end : (left : List Port) → j + length left ≡ count → too_many_signals 0 ps ≡ too_many_signals n left → length (signal_list ps) ≡ n + length (signal_list left)
-          → sets list₀ 0 (signal_list ps) ≡ sets list n (signal_list left) → numbered_from R 0 ps firsts₀ ≡ numbered_from R n left firsts → Lists R ps (Listed n) firsts₀ list₀ firsts list
+          → sets list₀ 0 (signal_list ps) ≡ sets list n (signal_list left) → numbered_from R 0 ps firsts₀ ≡ numbered_from R n left firsts → Lists R ps (Ok n) firsts₀ list₀ firsts list
       end [] t a b c d = record { says = (a, (omega arith, (sym c, sym d))) }
       end (q ∷ qs) t a b c d = absurd (omega arith)

@@ -1,7 +1,7 @@
 -- The reader's whole answer: 17, or the answer on the text with the work buffer cleared behind it.
 use Rattle.std.specs.Prelude.{ℕ, List, ◌≡◌, length}
 use Rattle.node.specs.Result.{◌>>=◌}
-use Rattle.node.specs.declared.Answer.{Answer}
+use Rattle.node.specs.Answer.{Answer}
 use Rattle.words.specs.Words.{past}
 use Rattle.language.specs.Limits.{work_bytes}
 use Rattle.language.specs.Reading.{text_expansion, delivered}

@@ -1,10 +1,11 @@
 -- The reader's promise from the answer with a work buffer that is long enough, and from 17.
-use Rattle.std.specs.Prelude.{ℕ, ◌≤◌, ◌<◌, List, ◌≡◌, length}
+use Rattle.std.specs.Prelude.{ℕ, ◌≤◌, ◌<◌, List, ◌≡◌, length, Err}
 use Rattle.std.proofs.Math.Path.{sym}
 use Rattle.std.proofs.Common.{◌∙◌, le-leb}
 use Rattle.node.specs.Result.{◌>>=◌}
 use Rattle.node.proofs.ResultLaws.{guard-pass}
-use Rattle.node.specs.declared.Answer.{Answer}
+use Rattle.node.specs.Answer.{Answer}
+use Rattle.node.specs.Returned.{refusal}
 use Rattle.basics.specs.Clearing.{cleared}
 use Rattle.words.specs.ClearingLaws.{cleared-same}
 use Rattle.language.specs.Limits.{work_bytes}
@@ -16,7 +17,7 @@ use Rattle.ending.proofs.HandsLaws.{hands_as, hands_refused}
 use Rattle.reader.specs.Answers.{Answers}
 
 module _ (text : List ℕ) {work nodes signals : List ℕ} where
-  pub reads_short : length work < work_bytes → Reads text work nodes signals work nodes signals (Answer.Refused 17 0)
+  pub reads_short : length work < work_bytes → Reads text work nodes signals work nodes signals (Err (refusal 17 0))
   reads_short h =
       let g = hands_refused nodes signals (short_refused text (length work) (length nodes) (length signals) h) in
       reads text (record { answer = g.answer; nodes_left = g.nodes_left; signals_left = g.signals_left; work_left = sym (work_short work h) })

@@ -1,5 +1,5 @@
 -- What the lines ask for, from a text's checked tree and what it declares.
-use Rattle.std.specs.Prelude.{ℕ, suc, ◌≤◌, List, [], ◌∷◌, ◌≡◌, refl, get_or}
+use Rattle.std.specs.Prelude.{ℕ, suc, ◌≤◌, List, [], ◌∷◌, ◌≡◌, refl, get_or, Ok, Err}
 use Rattle.std.proofs.Common.{ap, ◌∙◌, arith}
 use Rattle.node.specs.Limits.{max_nodes}
 use Rattle.language.specs.Limits.{max_signals}
@@ -14,8 +14,7 @@ use Rattle.language.proofs.Laws.Values.SignalLaws.{ports_listed, signals_few}
 use Rattle.names.specs.References.{number_in}
 use Rattle.names.proofs.ResolvedLaws.{number-below}
 use Rattle.names.specs.Resolved.{declared_names}
-use Rattle.ports.specs.declared.Signals.{Signals}
-use Rattle.ports.specs.declared.Signals.TheVariants.{Listed, TooMany}
+use Rattle.ports.specs.Signals.{Signals}
 use Rattle.notes.specs.NotesLaws.{names_distinct}
 use Rattle.operands.specs.Working.{source}
 use Rattle.memory_notes.specs.Laid.{FirstSignals}
@@ -42,8 +41,8 @@ module _ {text w refs found : List ℕ} {entries names : ℕ} {x : Spec} (c : Ch
   numbered l = go s l h.listed
     where
       go : (i : Signals) → start_of i ≤ max_nodes → SignalsAre x ps a.firsts list list' i → FirstSignals ps (world x D) a.firsts
-      go (Listed n) l t = let once = c.tree.resolved.distinct in first-signals x D h.is once (names_distinct x once) t.0 a.firsts t.1.1.1
-      go (TooMany p) l t = absurd (omega arith)
+      go (Ok n) l t = let once = c.tree.resolved.distinct in first-signals x D h.is once (names_distinct x once) t.0 a.firsts t.1.1.1
+      go (Err p) l t = absurd (omega arith)
 
   -- the number of a port's first signal
   abbrev First : ℕ → Port → Type 0
@@ -53,10 +52,10 @@ module _ {text w refs found : List ℕ} {entries names : ℕ} {x : Spec} (c : Ch
   first-told = go s h.listed
     where
       go : (i : Signals) → SignalsAre x ps a.firsts list list' i → All (First (start_of i)) ps
-      go (Listed n) t =
+      go (Ok n) t =
           let few = signals_few 0 ps (omega arith) t.0 in
           all_both (λ q r b _. (b, omega (arith, r.inside))) ps (ports_listed ps (ports_distinct x D c.tree.resolved.distinct h.is)) t.1.1.1
-      go (TooMany p) t = all_more (λ q _ l. absurd (omega arith)) ps (all_any ps)
+      go (Err p) t = all_more (λ q _ l. absurd (omega arith)) ps (all_any ps)
 
   abbrev Known : Port → Type 0
   Known q = First (start_of s) q × Regular q.words
@@ -84,9 +83,9 @@ module _ {text w refs found : List ℕ} {entries names : ℕ} {x : Spec} (c : Ch
       }
     where
       few : (i : Signals) → start_of i ≤ suc max_nodes
-      few (Listed n) = omega arith
-      few (TooMany p) = omega arith
+      few (Ok n) = omega arith
+      few (Err p) = omega arith
 
       starts : (i : Signals) → start_of i ≤ max_nodes → start_of i ≡ 0
-      starts (Listed n) l = refl
-      starts (TooMany p) l = absurd (omega arith)
+      starts (Ok n) l = refl
+      starts (Err p) l = absurd (omega arith)

@@ -1,6 +1,5 @@
 -- How many lines the sections of an accepted text have.
-use Rattle.std.specs.Prelude.{ℕ, List, ◌≡◌}
-use Rattle.node.specs.declared.Answer.TheVariants.{Accepted}
+use Rattle.std.specs.Prelude.{ℕ, List, ◌≡◌, Ok}
 use Rattle.language.specs.Tree.{Spec}
 use Rattle.language.specs.DeclaredNames.{Declarations}
 use Rattle.language.specs.Lines.{lines}
@@ -11,4 +10,4 @@ use Rattle.reader.specs.declared.expansion.Counted.{Counted}
 -- the answer on a text, its declarations given, and the counts of one that is accepted
 pub record Finishes (x : Spec) (d : Declarations) (nodes signals nodes' signals' : List ℕ) (r : Counted) : Type 0 where
   pub finishes : Ending.Finishes x d nodes signals nodes' signals' r.answer
-  pub lines : (n s : ℕ) → r.answer ≡ Accepted n s → CountsOf x d r.lines
+  pub lines : (n s : ℕ) → r.answer ≡ Ok (n, s) → CountsOf x d r.lines

@@ -1,5 +1,5 @@
 -- The lines of an accepted text fit the table in which they are gathered, so each has its word there, and is counted.
-use Rattle.std.specs.Prelude.{ℕ, ◌+◌, ◌≤◌, ◌<◌, List, ◌≡◌, length}
+use Rattle.std.specs.Prelude.{ℕ, ◌+◌, ◌≤◌, ◌<◌, List, ◌≡◌, length, Ok, Err}
 use Rattle.std.proofs.Common.{sym, ap, ◌∙◌, subst, arith}
 use Rattle.std.proofs.Math.Decide.{dec_lt}
 use Rattle.node.specs.Limits.{max_nodes}
@@ -7,9 +7,8 @@ use Rattle.node.specs.Ltl.{Formula}
 use Rattle.node.specs.Written.{count}
 use Rattle.node.specs.Result.{Result, Done, Refused, ◌>>=◌}
 use Rattle.node.proofs.ResultLaws.{not_done, bind_to, bind_refused}
-use Rattle.node.specs.Answer.{says}
-use Rattle.node.specs.declared.Answer.{Answer}
-use Rattle.node.specs.declared.Answer.TheVariants.{Accepted}
+use Rattle.node.specs.Answer.{Answer, says}
+use Rattle.node.specs.declared.Refusal.{Refusal}
 use Rattle.language.specs.Tree.{Model, Mealy, Moore, Spec}
 use Rattle.language.specs.DeclaredNames.{Declarations}
 use Rattle.language.specs.Numbering.{in_order, signal_list}
@@ -19,8 +18,7 @@ use Rattle.language.specs.Shifting.{adapted}
 use Rattle.language.specs.Reading.{NumberedFormula, delivered}
 use Rattle.language.proofs.Laws.Meaning.ShiftLaws.{shifted-count}
 use Rattle.parser.specs.declared.Facts.{Facts}
-use Rattle.ports.specs.declared.Signals.{Signals}
-use Rattle.ports.specs.declared.Signals.TheVariants.{Listed, TooMany}
+use Rattle.ports.specs.Signals.{Signals}
 use Rattle.assembly.specs.Gathered.{in_turn, extent, Lined}
 use Rattle.assembly.specs.WholeLaws.{whole-count}
 use Rattle.ending.specs.Endings.{ended}
@@ -35,11 +33,11 @@ use Rattle.reader.specs.declared.expansion.Counted.{Counted}
 use Rattle.reader.specs.Counting.{Finishes}
 
 -- a refusal is not accepted
-pub not_accepted_lem : {a : Answer} {number place n s : ℕ} → a ≡ Answer.Refused number place → a ≡ Accepted n s → ⊥
+pub not_accepted_lem : {a : Answer} {u : Refusal} {n s : ℕ} → a ≡ Err u → a ≡ Ok (n, s) → ⊥
 not_accepted_lem r e = not_done (sym (ap says r) ∙ ap says e)
 
-pub finishes_refused : {x : Spec} {d : Declarations} {nodes signals nodes' signals' : List ℕ} {number place : ℕ} {r : Counted} → r.answer ≡ Answer.Refused number place
-    → Ending.Finishes x d nodes signals nodes' signals' (Answer.Refused number place) → Finishes x d nodes signals nodes' signals' r
+pub finishes_refused : {x : Spec} {d : Declarations} {nodes signals nodes' signals' : List ℕ} {u : Refusal} {r : Counted} → r.answer ≡ Err u
+    → Ending.Finishes x d nodes signals nodes' signals' (Err u) → Finishes x d nodes signals nodes' signals' r
 finishes_refused {x} {d} {nodes} {signals} {nodes'} {signals'} a h =
     record { finishes = subst (Ending.Finishes x d nodes signals nodes' signals') (sym a) h; lines = λ n s e. absurd (not_accepted_lem a e) }
 
@@ -58,7 +56,7 @@ module _ {f : Facts} {s : Signals} {words table list : List ℕ} {count at : ℕ
   abbrev result : Result NumberedFormula
   result = (expand x d (lines x d) >>= ended x d) >>= end
 
-  module _ {n m : ℕ} (e : a ≡ Accepted n m) (ss : Sections) (made : gather (expand_section (define_all (at_signals d) x.definitions)) (lines x d) ≡ Done ss) where
+  module _ {n m : ℕ} (e : a ≡ Ok (n, m)) (ss : Sections) (made : gather (expand_section (define_all (at_signals d) x.definitions)) (lines x d) ≡ Done ss) where
     accepted : {number place : ℕ} → result ≡ Refused number place → ⊥
     accepted r = not_done (sym (bind_refused result _ _ _ r) ∙ sym h.answer ∙ ap says e)
 
@@ -73,12 +71,12 @@ module _ {f : Facts} {s : Signals} {words table list : List ℕ} {count at : ℕ
 
     -- too many signals are refused by 15, too many nodes by 16
     not-many : (i : Signals) → Listing i d list → max_nodes < start_of i + extent (in_turn ss) → ⊥
-    not-many (Listed k) t l =
+    not-many (Ok k) t l =
         let list' = signal_list (in_order d) in
         let w = whole x.strict (section ss) in
         accepted (few_signals_lem end x d formula t.0
         ∙ too_large end (adapted x.semantics x.target list' w) list' (omega (arith, whole-count x.strict ss, adapted-count x.semantics x.target list' w)))
-    not-many (TooMany p) t l = accepted (too_many_lem end x d formula t)
+    not-many (Err p) t l = accepted (too_many_lem end x d formula t)
 
     fits : at ≤ max_nodes
     fits = go (dec_lt max_nodes at)

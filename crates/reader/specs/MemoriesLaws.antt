@@ -1,10 +1,7 @@
--- Each memory is enough for its text. With it, what a function needs that calls itself nowhere but behind a test that is never true.
-use Rattle.std.specs.Prelude.{ℕ, ◌≤◌, ◌<◌, List, replicate}
+-- Each memory is enough for its text.
+use Rattle.std.specs.Prelude.{ℕ, ◌≤◌, List, replicate}
 use Rattle.std.proofs.Common.{ap, arith}
 use Rattle.std.proofs.lemmas.List.{length-replicate}
-use borrow.Fn.Kinds.{ParamKind, In}
-use borrow.Fn.PlainCycle.{Measures, is, falls, and}
-use Rattle.language.specs.Limits.{max_tokens}
 use Rattle.machine_run.specs.Running.{max_memory}
 use Rattle.memory_notes.specs.Laid.{last_slots}
 use Rattle.reader.specs.declared.expansion.CheckedTree.{CheckedTree}
@@ -23,18 +20,3 @@ module _ {text w refs found : List ℕ} {t : CheckedTree} (h : SomeParsed text w
       let e = length-replicate {A = ℕ} n 0 in
       let few = h.parsed.checked.tree.stored.few in
       record { room = omega (arith, few); kept = omega arith; most = omega arith }
-
-  -- a tree has no more entries than a text has tokens
-  pub not_more : max_tokens < t.entries → ⊥
-  not_more l = omega (arith, h.parsed.checked.tree.stored.few)
-
--- where a function never calls itself, any measure will do
-module _ {n : ℕ} (ps : List (ParamKind n)) where
-  abbrev pub unmeasured : Measures n ps ℕ
-  unmeasured κs a = 0
-
-  abbrev pub at : In n ps → ℕ → In n ps
-  at P t = and n ps (is n ps unmeasured t) P
-
-  abbrev pub below : In n ps → ℕ → In n ps
-  below P t = and n ps (falls n ps ◌<◌ unmeasured t) P

@@ -1,7 +1,6 @@
 -- The declarations of a text whose tree is checked: what they ask for, and what their answer says.
-use Rattle.std.specs.Prelude.{ℕ, ◌+◌, ◌≤◌, List, ◌≡◌, length}
+use Rattle.std.specs.Prelude.{ℕ, ◌+◌, ◌≤◌, List, ◌≡◌, length, Ok}
 use Rattle.node.specs.Result.{Done, ◌>>=◌}
-use Rattle.node.specs.declared.Answer.TheVariants.{Accepted}
 use Rattle.language.specs.Limits.{max_tokens, max_names, work_bytes}
 use Rattle.language.specs.Tree.{Spec}
 use Rattle.language.specs.DeclaredNames.{Declarations, declarations}
@@ -37,7 +36,7 @@ pub record Roomy (memory : List ℕ) (entries : ℕ) : Type 0 where
 -- the answer on a tree, and the counts of one that is accepted
 pub record Converts (x : Spec) (nodes signals nodes' signals' : List ℕ) (r : Counted) : Type 0 where
   pub hands : Hands (spec_expansion x >>= delivered (length nodes) (length signals)) nodes signals nodes' signals' r.answer
-  pub lines : (n s : ℕ) → r.answer ≡ Accepted n s → (d : Declarations) → declarations x ≡ Done d → CountsOf x d r.lines
+  pub lines : (n s : ℕ) → r.answer ≡ Ok (n, s) → (d : Declarations) → declarations x ≡ Done d → CountsOf x d r.lines
 
 -- of whatever tree is stored there, the answer
 pub record Expands (text w refs found : List ℕ) (t : CheckedTree) (nodes signals nodes' signals' : List ℕ) (r : Counted) : Type 0 where

@@ -1,20 +1,18 @@
 -- The declarations of a checked tree: refused as the definition refuses them, or names worked out, with which the lines may go on.
-use Rattle.std.specs.Prelude.{ℕ, ◌+◌, ◌≤◌, List, ◌≡◌, length, take, drop}
+use Rattle.std.specs.Prelude.{ℕ, ◌+◌, ◌≤◌, List, ◌≡◌, length, take, drop, Err, Ok}
 use Rattle.std.proofs.Common.{sym, ap, ◌∙◌, subst, arith, take_at}
 use Rattle.std.proofs.lemmas.List.Edits.{sets, sets-eq}
 use Rattle.node.specs.Limits.{max_nodes}
 use Rattle.node.specs.Result.{◌>>=◌}
-use Rattle.node.specs.declared.Answer.{Answer}
+use Rattle.node.specs.Returned.{Returned}
+use Rattle.node.specs.declared.Refusal.{Refusal}
 use Rattle.language.specs.Limits.{max_signals}
 use Rattle.language.specs.Tree.{Spec}
 use Rattle.language.specs.Numbering.{in_order, signal_list}
 use Rattle.language.specs.Reading.{spec_expansion, delivered}
 use Rattle.language.proofs.Laws.Values.SignalLaws.{signals_few}
-use Rattle.ports.specs.declared.Signals.{Signals}
-use Rattle.ports.specs.declared.Signals.TheVariants.{Listed, TooMany}
+use Rattle.ports.specs.Signals.{Signals}
 use Rattle.assembly.specs.declared.implied.Ports.{Ports}
-use Rattle.declarations.specs.declared.Declared.{Declared}
-use Rattle.declarations.specs.declared.Declared.TheVariants.{Ports as WithPorts, Refused as NotDeclared}
 use Rattle.declarations.specs.declared.Declarations.{Declarations as Told}
 use Rattle.declarations.specs.Promise as Promise
 use Rattle.declarations.specs.Expressions.{MemoryRoom}
@@ -47,15 +45,15 @@ list-taken n list list' vs e q l = ap (take n) (q ∙ sets-eq vs list 0 (omega a
 abbrev ports_of : Told → Ports
 ports_of a = record { order = a.order; enumerations = a.enumerations; firsts = a.firsts }
 
-abbrev named_by : CheckedTree → Told → ℕ → ℕ → Signals → List ℕ → Named
-named_by t a count ins s list = record { entries = t.entries; facts = t.facts; ports = ports_of a; count = count; ins = ins; listed = s; list = list }
+abbrev named_by : CheckedTree → Told → List ℕ → Named
+named_by t a list = record { entries = t.entries; facts = t.facts; ports = ports_of a; count = a.count; ins = a.ins; listed = a.listed; list = list }
 
-module _ {text w refs found : List ℕ} {t : CheckedTree} {x : Spec} (h : Parsed text w refs found t x) {memory table list list' : List ℕ} {a : Told}
-    (g : (x : Spec) → Checked text w refs found t.entries t.names x → Declares text w t.entries x memory table list list' a) where
-  abbrev Says : Declared → Type 0
-  Says = Promise.Answer text w t.entries x memory table a.order a.enumerations a.firsts list list'
+module _ {text w refs found : List ℕ} {t : CheckedTree} {x : Spec} (h : Parsed text w refs found t x) {memory table list list' : List ℕ} {r : Returned Told}
+    (g : (x : Spec) → Checked text w refs found t.entries t.names x → Declares text w t.entries x memory table list list' r) where
+  abbrev Says : Returned Told → Type 0
+  Says = Promise.Answer text w t.entries x memory table list list'
 
-  pub names-refused : {n p : ℕ} {r : Counted} (nodes signals : List ℕ) → a.answer ≡ NotDeclared n p → r.answer ≡ Answer.Refused n p → Converts x nodes signals nodes signals r
+  pub names-refused : {u : Refusal} {k : Counted} (nodes signals : List ℕ) → r ≡ Err u → k.answer ≡ Err u → Converts x nodes signals nodes signals k
   names-refused nodes signals e q =
       let not = declarations-refused (delivered (length nodes) (length signals)) x (subst Says e (g x h.checked).answer) in
       record {
@@ -63,38 +61,38 @@ module _ {text w refs found : List ℕ} {t : CheckedTree} {x : Spec} (h : Parsed
         lines = λ n s e. absurd (not_accepted_lem q e);
       }
 
-  module _ {count ins : ℕ} {s : Signals} (e : a.answer ≡ WithPorts count ins s) where
-    pub all : WorkedOut text w t.entries x memory table a.order a.enumerations a.firsts list list' count ins s
+  module _ {a : Told} (e : r ≡ Ok a) where
+    pub all : WorkedOut text w t.entries x memory table a.order a.enumerations a.firsts list list' a.count a.ins a.listed
     all = subst Says e (g x h.checked).answer
 
-    listed : max_signals ≤ length list → length list' ≡ length list → Listing s all.result list'
-    listed l k = go s all.listed
+    listed : max_signals ≤ length list → length list' ≡ length list → Listing a.listed all.result list'
+    listed l k = go a.listed all.listed
       where
         go : (i : Signals) → SignalsAre x (in_order all.result) a.firsts list list' i → Listing i all.result list'
-        go (Listed n) t =
+        go (Ok n) t =
             let few = signals_few 0 (in_order all.result) (omega arith) t.0 in
             let c = t.1.0 in
             (t.0, (c, (list-taken n list list' (signal_list (in_order all.result)) c t.1.1.0 (omega arith), omega arith)))
-        go (TooMany p) t = t
+        go (Err e) t = t
 
-    pub names-ready : max_signals ≤ length list → length list' ≡ length list → Ready text w refs memory table (named_by t a count ins s list') x all.result
+    pub names-ready : max_signals ≤ length list → length list' ≡ length list → Ready text w refs memory table (named_by t a list') x all.result
     names-ready l k = record { facts = h.facts; listing = listed l k; given = given h.checked all }
 
-    pub names-convert : {nodes signals nodes' signals' : List ℕ} {r : Counted} → Finishes x all.result nodes signals nodes' signals' r → Converts x nodes signals nodes' signals' r
-    names-convert {nodes} {signals} {r = r} f = record {
+    pub names-convert : {nodes signals nodes' signals' : List ℕ} {k : Counted} → Finishes x all.result nodes signals nodes' signals' k → Converts x nodes signals nodes' signals' k
+    names-convert {nodes} {signals} {k = k} f = record {
       hands = hands_as (declarations-done (delivered (length nodes) (length signals)) x all.is) f.finishes;
       lines = λ n s q d e.
           let same : all.result ≡ d = (let i = all.is in cc) in
-          subst (λ i. CountsOf x i r.lines) same (f.lines n s q);
+          subst (λ i. CountsOf x i k.lines) same (f.lines n s q);
     }
 
-module _ {text w refs found : List ℕ} {t : CheckedTree} {memory table list list' : List ℕ} {a : Told} {count ins : ℕ} {s : Signals} (h : SomeParsed text w refs found t)
-    (g : (x : Spec) → Checked text w refs found t.entries t.names x → Declares text w t.entries x memory table list list' a) (e : a.answer ≡ WithPorts count ins s)
+module _ {text w refs found : List ℕ} {t : CheckedTree} {memory table list list' : List ℕ} {r : Returned Told} {a : Told} (h : SomeParsed text w refs found t)
+    (g : (x : Spec) → Checked text w refs found t.entries t.names x → Declares text w t.entries x memory table list list' r) (e : r ≡ Ok a)
     (l : max_signals ≡ length list) (k : length list' ≡ length list) where
-  pub some_ready : SomeReady text w refs memory table (named_by t a count ins s list')
+  pub some_ready : SomeReady text w refs memory table (named_by t a list')
   some_ready = record { x = h.x; d = _; ready = names-ready h.parsed g e (omega arith) k }
 
-  pub some_sized : Sized w refs memory (named_by t a count ins s list')
+  pub some_sized : Sized w refs memory (named_by t a list')
   some_sized =
       let f = all h.parsed g e in
       let z = f.room in

@@ -1,8 +1,7 @@
 -- What INFO says, handed back beside the answer: of every text that 1 to 10 do not refuse, also where a later refusal stands. And how many lines the sections have that
 -- promise something: of every text that is accepted.
-use Rattle.std.specs.Prelude.{ℕ, ◌≤◌, List, ◌≡◌, length}
+use Rattle.std.specs.Prelude.{ℕ, ◌≤◌, List, ◌≡◌, length, Ok}
 use Rattle.node.specs.Result.{Done}
-use Rattle.node.specs.declared.Answer.TheVariants.{Accepted}
 use Rattle.language.specs.Limits.{work_bytes}
 use Rattle.language.specs.Tree.{Spec}
 use Rattle.language.specs.Parsing.{parsed}
@@ -26,4 +25,4 @@ TextCounts text k = (x : Spec) (d : Declarations) → parsed text ≡ Done x →
 pub record ReadsTold (text work nodes signals work' nodes' signals' : List ℕ) (r : Told) : Type 0 where
   pub reads : Reads text work nodes signals work' nodes' signals' r.answer
   pub facts : work_bytes ≤ length work → Informed text r.facts
-  pub lines : (n s : ℕ) → r.answer ≡ Accepted n s → TextCounts text r.lines
+  pub lines : (n s : ℕ) → r.answer ≡ Ok (n, s) → TextCounts text r.lines

@@ -1,17 +1,16 @@
 -- What INFO says and the counts of lines, by the answer: of a refused text, of a tree, with a work buffer that is too short or long enough.
-use Rattle.std.specs.Prelude.{ℕ, ◌≤◌, ◌<◌, List, ◌≡◌, length}
+use Rattle.std.specs.Prelude.{ℕ, ◌≤◌, ◌<◌, List, ◌≡◌, length, Err, Ok}
 use Rattle.std.proofs.Common.{sym, ap, ◌∙◌, subst, arith}
 use Rattle.node.specs.Result.{Refused}
-use Rattle.node.specs.declared.Answer.{Answer}
+use Rattle.node.specs.Returned.{Returned, refusal}
+use Rattle.node.specs.declared.Refusal.{Refusal}
 use Rattle.basics.specs.Clearing.{cleared}
 use Rattle.language.specs.Limits.{work_bytes}
 use Rattle.language.specs.Parsing.{parsed}
 use Rattle.claim.specs.Reads.{Reads}
 use Rattle.parser.specs.declared.Facts.{Facts}
 use Rattle.parser.specs.Outlines.{facts_of}
-use Rattle.checked.specs.declared.Counts.{Counts}
 use Rattle.checked.specs.declared.Checked.{Checked}
-use Rattle.checked.specs.declared.Checked.TheVariants.{Accepted as Passed, Refused as NotPassed}
 use Rattle.checked.specs.Checking.{Checks}
 use Rattle.checked.specs.AnswerLaws.{accepted, refused, tree-parsed}
 use Rattle.reader.specs.declared.expansion.Counted.{Counted}
@@ -28,8 +27,8 @@ use Rattle.reader.specs.Telling.{Tells}
 refused_untold : (text : List ℕ) {n p : ℕ} (f : Facts) → parsed text ≡ Refused n p → Informed text f
 refused_untold text f e x d = let z : ◌≡◌ {A = ℕ} 0 1 = cc in absurd (omega arith)
 
-module _ {text work used refs found : List ℕ} {r : Checked} (c : Checks text work used refs found r) where
-  pub refused-tells : {n p : ℕ} {t : Told} (nodes signals : List ℕ) → r ≡ NotPassed n p → t.answer ≡ Answer.Refused n p → Tells text work nodes signals used nodes signals t
+module _ {text work used refs found : List ℕ} {r : Returned Checked} (c : Checks text work used refs found r) where
+  pub refused-tells : {u : Refusal} {t : Told} (nodes signals : List ℕ) → r ≡ Err u → t.answer ≡ Err u → Tells text work nodes signals used nodes signals t
   refused-tells {t = t} nodes signals e a =
       record {
         answers = subst (Answers text work nodes signals used nodes signals) (sym a) (tree-refused c nodes signals e);
@@ -37,13 +36,13 @@ module _ {text work used refs found : List ℕ} {r : Checked} (c : Checks text w
         lines = λ n s q. absurd (not_accepted_lem a q);
       }
 
-  pub tree-tells : {k : Counts} {f : Facts} {nodes signals nodes' signals' : List ℕ} {a : Counted} → r ≡ Passed k f
-      → Expands text used refs found (record { entries = k.entries; names = k.names; facts = f }) nodes signals nodes' signals' a
-      → Tells text work nodes signals used nodes' signals' (record { answer = a.answer; facts = f; lines = a.lines })
+  pub tree-tells : {k : Checked} {nodes signals nodes' signals' : List ℕ} {a : Counted} → r ≡ Ok k
+      → Expands text used refs found (record { entries = k.counts.entries; names = k.counts.names; facts = k.facts }) nodes signals nodes' signals' a
+      → Tells text work nodes signals used nodes' signals' (record { answer = a.answer; facts = k.facts; lines = a.lines })
   tree-tells e g = let t = accepted c e in record { answers = tree-answers c e g; facts = λ x d. t.facts ∙ ap facts_of (tree-parsed t d); lines = tree-counts c e g }
 
 module _ (text : List ℕ) {work nodes signals : List ℕ} {t : Told} where
-  pub told_short : length work < work_bytes → t.answer ≡ Answer.Refused 17 0 → ReadsTold text work nodes signals work nodes signals t
+  pub told_short : length work < work_bytes → t.answer ≡ Err (refusal 17 0) → ReadsTold text work nodes signals work nodes signals t
   told_short h a = record {
     reads = subst (Reads text work nodes signals work nodes signals) (sym a) (reads_short text h);
     facts = λ l. absurd (omega arith);

@@ -1,32 +1,31 @@
 // From a checked tree to its answer: declarations, lines and what follows them (refusals 11 to 18), with a memory that is lent.
-ghost use Rattle.std.specs.Prelude.{◌≡◌, ℕ};
+ghost use Rattle.std.specs.Prelude.{◌≡◌, Err};
 ghost use Rattle.language.specs.Tree.{Spec};
 ghost use Rattle.language.specs.DeclaredNames.{Declarations};
 ghost use Rattle.ending.specs.Listing.{start_of};
-ghost use Rattle.lines.specs.declared.Gathering.{Gathering as NotGathered};
-ghost use Rattle.declarations.specs.declared.Declared.{Declared as NotDeclared};
 ghost use Rattle.reader.specs.Counting.{Finishes};
 ghost use Rattle.reader.specs.Lining.{Ready, SomeReady, Sized};
 ghost use Rattle.reader.specs.Naming.{Roomy, SomeParsed, Expands};
 
-use assembly::implied::{Ends, Ports};
+use assembly::implied::Ports;
+use declarations::Counts;
 use declarations::declare::declare;
-use declarations::{Counts, Declared};
 use ending::finish;
 use line_counts::{LineCounts, count_lines, no_lines};
-use lines::{Gathering, Plan, gather};
-use node::{Answer, MAX_NODES, MAX_SIGNALS};
+use lines::{Plan, gather};
+use node::{Answer, MAX_NODES, MAX_SIGNALS, Refusal};
+use operands::Source;
 use parser::Facts;
-use ports::Signals;
+use ports::TooMany;
 use writing::TOO_MANY;
 
 // Where the lines' nodes start: with too many signals nothing is written, and lines are worked through for their refusals alone.
-fn start(listed: Signals) -> usize
+fn start(listed: Result<usize, TooMany>) -> usize
     ensures { result ≡ start_of listed }
 {
     match listed {
-        Signals::Listed(_) => 0,
-        Signals::TooMany(_) => TOO_MANY,
+        Ok(_) => 0,
+        Err(_) => TOO_MANY,
     }
 }
 
@@ -37,32 +36,13 @@ pub struct Counted {
     pub lines: LineCounts,
 }
 
-fn uncounted(number: u32, place: u32) -> Counted
-    ensures { result.answer ≡ Answer.Refused number place }
+fn uncounted(refusal: Refusal) -> Counted
+    ensures { result.answer ≡ Err refusal }
 {
     Counted {
-        answer: Answer::Refused(number, place),
+        answer: Err(refusal),
         lines: no_lines(),
     }
-}
-
-// Refusals handed up.
-fn undeclared(declared: Declared) -> Counted
-    ensures { (n p : ℕ) → declared ≡ NotDeclared.Refused n p → result.answer ≡ Answer.Refused n p }
-{
-    let Declared::Refused(number, place) = declared else {
-        return uncounted(0, 0);
-    };
-    uncounted(number, place)
-}
-
-fn ungathered(gathering: Gathering) -> Counted
-    ensures { (n p : ℕ) → gathering ≡ NotGathered.Refused n p → result.answer ≡ Answer.Refused n p }
-{
-    let Gathering::Refused(number, place) = gathering else {
-        return uncounted(0, 0);
-    };
-    uncounted(number, place)
 }
 
 // A text whose names are worked out: how many entries it has, what INFO says, its ports, how many they are and how many of them inputs, and its signals, in a list
@@ -74,24 +54,22 @@ struct Named {
     ports: Ports,
     count: usize,
     ins: usize,
-    listed: Signals,
+    listed: Result<usize, TooMany>,
     list: [u32; MAX_SIGNALS],
 }
 
 // The lines of a text whose names are worked out, and what follows them.
 fn expand_declared(
-    text: &[u8],
-    work: &[u8],
-    refs: &[u16],
+    source: &Source,
     memory: &mut [u32],
     table: &mut [u32; MAX_NODES],
     named: Named,
     nodes: &mut [u32],
     signals: &mut [u32],
 ) -> Counted
-    requires some_ready { SomeReady text.now work.now refs.now memory.old table.old named }
-    requires sized { Sized work.now refs.now memory.old named }
-    ensures { (x : Spec) (d : Declarations) → Ready text.now work.now refs.now memory.old table.old named x d
+    requires some_ready { SomeReady source.now.text.now source.now.work.now source.now.refs.now memory.old table.old named }
+    requires sized { Sized source.now.work.now source.now.refs.now memory.old named }
+    ensures { (x : Spec) (d : Declarations) → Ready source.now.text.now source.now.work.now source.now.refs.now memory.old table.old named x d
         → Finishes x d nodes.old signals.old nodes.new signals.new result }
 {
     let mut lines = [0u32; MAX_NODES];
@@ -104,13 +82,13 @@ fn expand_declared(
         start: from,
     };
     let ports = named.ports;
-    let gathering = gather(text, work, refs, memory, table, &mut lines, ports, plan);
-    let Gathering::Lines(count, at) = gathering else {
-        return ungathered(gathering);
+    let gathering = gather(source, memory, table, &mut lines, ports, plan);
+    let ends = match gathering {
+        Ok(ends) => ends,
+        Err(refusal) => return uncounted(refusal),
     };
-    let counts = count_lines(&lines, count);
+    let counts = count_lines(&lines, ends.count);
     let list = named.list;
-    let ends = Ends { at, count };
     let a = finish(
         named.facts,
         listed,
@@ -137,18 +115,16 @@ pub struct CheckedTree {
 
 // The declarations of a checked tree, and what follows them: refusals 11 to 18.
 pub fn expand_checked_in(
-    text: &[u8],
-    work: &[u8],
-    refs: &[u16],
+    source: &Source,
     found: &[u16],
     memory: &mut [u32],
     tree: CheckedTree,
     nodes: &mut [u32],
     signals: &mut [u32],
 ) -> Counted
-    requires some_parsed { SomeParsed text.now work.now refs.now found.now tree }
+    requires some_parsed { SomeParsed source.now.text.now source.now.work.now source.now.refs.now found.now tree }
     requires roomy { Roomy memory.old tree.entries }
-    ensures { Expands text.now work.now refs.now found.now tree nodes.old signals.old nodes.new signals.new result }
+    ensures { Expands source.now.text.now source.now.work.now source.now.refs.now found.now tree nodes.old signals.old nodes.new signals.new result }
 {
     let mut table = [0u32; MAX_NODES];
     let mut list = [0u32; MAX_SIGNALS];
@@ -156,12 +132,10 @@ pub fn expand_checked_in(
         entries: tree.entries,
         names: tree.names,
     };
-    let d = declare(
-        text, work, refs, found, counts, memory, &mut table, &mut list,
-    );
-    let declared = d.answer;
-    let Declared::Ports(count, ins, listed) = declared else {
-        return undeclared(declared);
+    let declared = declare(source, found, counts, memory, &mut table, &mut list);
+    let d = match declared {
+        Ok(d) => d,
+        Err(refusal) => return uncounted(refusal),
     };
     let order = d.order;
     let enumerations = d.enumerations;
@@ -171,15 +145,14 @@ pub fn expand_checked_in(
         enumerations,
         firsts,
     };
-    let facts = tree.facts;
     let named = Named {
         entries: tree.entries,
-        facts,
+        facts: tree.facts,
         ports,
-        count,
-        ins,
-        listed,
+        count: d.count,
+        ins: d.ins,
+        listed: d.listed,
         list,
     };
-    expand_declared(text, work, refs, memory, &mut table, named, nodes, signals)
+    expand_declared(source, memory, &mut table, named, nodes, signals)
 }

@@ -5,19 +5,19 @@ mod expansion;
 mod memories;
 mod weight;
 
-ghost use Rattle.std.specs.Prelude.{◌≡◌, ℕ, ◌≤◌, length};
+ghost use Rattle.std.specs.Prelude.{◌≡◌, ◌≤◌, Err, length};
 ghost use Rattle.language.specs.Limits.{work_bytes};
-ghost use Rattle.checked.specs.declared.Checked.{Checked as NotChecked};
 ghost use Rattle.claim.specs.Reads.{Reads};
 ghost use Rattle.reader.specs.Promise.{ReadsTold};
 ghost use Rattle.reader.specs.Telling.{Tells};
 
 use crate::expansion::CheckedTree;
 use crate::memories::expand_checked;
-use checked::{Checked, check};
+use checked::check;
 use language::limits;
 use line_counts::{LineCounts, no_lines};
-use node::{Answer, refusals};
+use node::{Answer, Refusal, refusals};
+use operands::Source;
 use parser::Facts;
 use words::clear;
 
@@ -30,11 +30,11 @@ pub struct Told {
 }
 
 // A refusal where INFO may not be read: facts and counts mean nothing.
-fn untold(number: u32, place: u32) -> Told
-    ensures { result.answer ≡ Answer.Refused number place }
+fn untold(refusal: Refusal) -> Told
+    ensures { result.answer ≡ Err refusal }
 {
     Told {
-        answer: Answer::Refused(number, place),
+        answer: Err(refusal),
         facts: Facts {
             semantics: 0,
             strict: false,
@@ -45,16 +45,6 @@ fn untold(number: u32, place: u32) -> Told
     }
 }
 
-// Refusals 1 to 10 handed up.
-fn unchecked(checked: Checked) -> Told
-    ensures { (n p : ℕ) → checked ≡ NotChecked.Refused n p → result.answer ≡ Answer.Refused n p }
-{
-    let Checked::Refused(number, place) = checked else {
-        return untold(0, 0);
-    };
-    untold(number, place)
-}
-
 // The answer on a text, with a work buffer that is long enough; what is left in its first 65,536 bytes is for the caller to clear.
 fn answer(text: &[u8], work: &mut [u8], nodes: &mut [u32], signals: &mut [u32]) -> Told
     requires { work_bytes ≤ length work.old }
@@ -63,21 +53,26 @@ fn answer(text: &[u8], work: &mut [u8], nodes: &mut [u32], signals: &mut [u32]) 
     let mut refs = [0u16; limits::MAX_TOKENS];
     let mut found = [0u16; limits::MAX_NAMES];
     let checked = check(text, work, &mut refs, &mut found);
-    let Checked::Accepted(counts, facts) = checked else {
-        return unchecked(checked);
+    let passed = match checked {
+        Ok(passed) => passed,
+        Err(refusal) => return untold(refusal),
     };
+    let facts = passed.facts;
     let tree = CheckedTree {
-        entries: counts.entries,
-        names: counts.names,
+        entries: passed.counts.entries,
+        names: passed.counts.names,
         facts,
     };
-    let counted = expand_checked(text, work, &refs, &found, tree, nodes, signals);
-    let a = counted.answer;
-    let lines = counted.lines;
+    let source = Source {
+        text,
+        work,
+        refs: &refs,
+    };
+    let counted = expand_checked(&source, &found, tree, nodes, signals);
     Told {
-        answer: a,
+        answer: counted.answer,
         facts: facts,
-        lines: lines,
+        lines: counted.lines,
     }
 }
 
@@ -86,7 +81,10 @@ pub fn read_told(text: &[u8], work: &mut [u8], nodes: &mut [u32], signals: &mut 
     ensures { ReadsTold text.now work.old nodes.old signals.old work.new nodes.new signals.new result }
 {
     if work.len() < limits::WORK_BYTES {
-        return untold(refusals::SHORT_WORK, 0);
+        return untold(Refusal {
+            number: refusals::SHORT_WORK,
+            place: 0,
+        });
     }
     let told = answer(text, work, nodes, signals);
     clear(work, limits::WORK_BYTES);

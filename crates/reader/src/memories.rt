@@ -1,11 +1,10 @@
 // A memory for each text: as much as its names, entries and operators ask for. How much it is changes no answer: each is enough.
-ghost use Rattle.std.specs.Prelude.{◌≤◌};
-ghost use Rattle.reader.specs.Naming.{SomeParsed, Expands};
-ghost use Rattle.reader.specs.Memories.{few_entries};
+ghost use Rattle.std.specs.Prelude.{replicate};
+ghost use Rattle.reader.specs.Naming.{SomeParsed, Roomy, Expands};
 
 use crate::expansion::{CheckedTree, Counted, expand_checked_in};
 use crate::weight::weigh;
-use language::limits;
+use operands::Source;
 
 // The words of the machine's memory: for a text of many operators that may hold sets and more than few definitions, for any other one, for one of some definitions, for one of
 // few definitions and entries. Up to half of it holds the notes and the sets of definitions, so that none is worked out twice; clearing more than that would take more time than
@@ -26,134 +25,65 @@ const FEW_DEFINITIONS: usize = 27;
 
 const FEW_ENTRIES: usize = 2_048;
 
-// `expand_checked_in` of a text of few definitions and entries. A function that calls itself, which this one never does, is not made part of its caller, whose frame would hold the
-// memory for every text.
-fn expand_checked_short(
-    text: &[u8],
-    work: &[u8],
-    refs: &[u16],
+// `expand_checked_in` with a memory of so many words, enough for the text's entries. It is not made part of its caller, whose frame would hold the memory for every text.
+#[inline(never)]
+fn expand_checked_with<const WORDS: usize>(
+    source: &Source,
     found: &[u16],
     tree: CheckedTree,
     nodes: &mut [u32],
     signals: &mut [u32],
 ) -> Counted
-    requires some_parsed { SomeParsed text.now work.now refs.now found.now tree }
-    requires entries_le_few_entries { tree.entries ≤ few_entries }
-    ensures { Expands text.now work.now refs.now found.now tree nodes.old signals.old nodes.new signals.new result }
+    requires some_parsed { SomeParsed source.now.text.now source.now.work.now source.now.refs.now found.now tree }
+    requires roomy { Roomy (replicate WORDS 0) tree.entries }
+    ensures { Expands source.now.text.now source.now.work.now source.now.refs.now found.now tree nodes.old signals.old nodes.new signals.new result }
 {
-    let mut memory = [0u32; LITTLE_MEMORY];
-    if tree.entries > limits::MAX_TOKENS {
-        return expand_checked_short(text, work, refs, found, tree, nodes, signals);
-    }
-    expand_checked_in(text, work, refs, found, &mut memory, tree, nodes, signals)
-}
-
-// Of a text of some definitions, in a frame of its own too.
-fn expand_checked_middle(
-    text: &[u8],
-    work: &[u8],
-    refs: &[u16],
-    found: &[u16],
-    tree: CheckedTree,
-    nodes: &mut [u32],
-    signals: &mut [u32],
-) -> Counted
-    requires { SomeParsed text.now work.now refs.now found.now tree }
-    ensures { Expands text.now work.now refs.now found.now tree nodes.old signals.old nodes.new signals.new result }
-{
-    let mut memory = [0u32; SOME_MEMORY];
-    if tree.entries > limits::MAX_TOKENS {
-        return expand_checked_middle(text, work, refs, found, tree, nodes, signals);
-    }
-    expand_checked_in(text, work, refs, found, &mut memory, tree, nodes, signals)
-}
-
-// Of any text.
-fn expand_checked_long(
-    text: &[u8],
-    work: &[u8],
-    refs: &[u16],
-    found: &[u16],
-    tree: CheckedTree,
-    nodes: &mut [u32],
-    signals: &mut [u32],
-) -> Counted
-    requires { SomeParsed text.now work.now refs.now found.now tree }
-    ensures { Expands text.now work.now refs.now found.now tree nodes.old signals.old nodes.new signals.new result }
-{
-    let mut memory = [0u32; MEMORY];
-    if tree.entries > limits::MAX_TOKENS {
-        return expand_checked_long(text, work, refs, found, tree, nodes, signals);
-    }
-    expand_checked_in(text, work, refs, found, &mut memory, tree, nodes, signals)
-}
-
-// Of a text of many operators that may hold sets.
-fn expand_checked_full(
-    text: &[u8],
-    work: &[u8],
-    refs: &[u16],
-    found: &[u16],
-    tree: CheckedTree,
-    nodes: &mut [u32],
-    signals: &mut [u32],
-) -> Counted
-    requires { SomeParsed text.now work.now refs.now found.now tree }
-    ensures { Expands text.now work.now refs.now found.now tree nodes.old signals.old nodes.new signals.new result }
-{
-    let mut memory = [0u32; FULL_MEMORY];
-    if tree.entries > limits::MAX_TOKENS {
-        return expand_checked_full(text, work, refs, found, tree, nodes, signals);
-    }
-    expand_checked_in(text, work, refs, found, &mut memory, tree, nodes, signals)
+    let mut memory = [0u32; WORDS];
+    expand_checked_in(source, found, &mut memory, tree, nodes, signals)
 }
 
 // Of a text of few definitions.
 fn expand_checked_few(
-    text: &[u8],
-    work: &[u8],
-    refs: &[u16],
+    source: &Source,
     found: &[u16],
     tree: CheckedTree,
     nodes: &mut [u32],
     signals: &mut [u32],
 ) -> Counted
-    requires { SomeParsed text.now work.now refs.now found.now tree }
-    ensures { Expands text.now work.now refs.now found.now tree nodes.old signals.old nodes.new signals.new result }
+    requires { SomeParsed source.now.text.now source.now.work.now source.now.refs.now found.now tree }
+    ensures { Expands source.now.text.now source.now.work.now source.now.refs.now found.now tree nodes.old signals.old nodes.new signals.new result }
 {
     if tree.entries <= FEW_ENTRIES {
-        return expand_checked_short(text, work, refs, found, tree, nodes, signals);
+        return expand_checked_with::<LITTLE_MEMORY>(source, found, tree, nodes, signals);
     }
-    expand_checked_middle(text, work, refs, found, tree, nodes, signals)
+    expand_checked_with::<SOME_MEMORY>(source, found, tree, nodes, signals)
 }
 
 // `expand_checked_in` with a memory for the text. Where there are few names, there are few definitions.
 pub fn expand_checked(
-    text: &[u8],
-    work: &[u8],
-    refs: &[u16],
+    source: &Source,
     found: &[u16],
     tree: CheckedTree,
     nodes: &mut [u32],
     signals: &mut [u32],
 ) -> Counted
-    requires { SomeParsed text.now work.now refs.now found.now tree }
-    ensures { Expands text.now work.now refs.now found.now tree nodes.old signals.old nodes.new signals.new result }
+    requires { SomeParsed source.now.text.now source.now.work.now source.now.refs.now found.now tree }
+    ensures { Expands source.now.text.now source.now.work.now source.now.refs.now found.now tree nodes.old signals.old nodes.new signals.new result }
 {
     if tree.names <= FEW_DEFINITIONS {
-        return expand_checked_few(text, work, refs, found, tree, nodes, signals);
+        return expand_checked_few(source, found, tree, nodes, signals);
     }
-    let weight = weigh(work, tree.entries);
+    let weight = weigh(source.work, tree.entries);
     if weight.definitions <= FEW_DEFINITIONS {
-        return expand_checked_few(text, work, refs, found, tree, nodes, signals);
+        return expand_checked_few(source, found, tree, nodes, signals);
     }
     if tree.entries > FEW_ENTRIES {
         if weight.holders > MANY_HOLDERS {
-            return expand_checked_full(text, work, refs, found, tree, nodes, signals);
+            return expand_checked_with::<FULL_MEMORY>(source, found, tree, nodes, signals);
         }
     }
     if weight.definitions > SOME_DEFINITIONS {
-        return expand_checked_long(text, work, refs, found, tree, nodes, signals);
+        return expand_checked_with::<MEMORY>(source, found, tree, nodes, signals);
     }
-    expand_checked_middle(text, work, refs, found, tree, nodes, signals)
+    expand_checked_with::<SOME_MEMORY>(source, found, tree, nodes, signals)
 }

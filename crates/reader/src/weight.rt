@@ -36,10 +36,7 @@ fn holds(kind: u32) -> usize
 fn defines(kind: u32) -> usize
     ensures { result ≤ 1 }
 {
-    if kind == kinds::DEFINITION {
-        return 1;
-    }
-    0
+    usize::from(kind == kinds::DEFINITION)
 }
 
 pub fn weigh(work: &[u8], entries: usize) -> Weight
@@ -48,12 +45,10 @@ pub fn weigh(work: &[u8], entries: usize) -> Weight
 {
     let mut holders: usize = 0;
     let mut definitions: usize = 0;
-    let mut k: usize = 0;
-    while k < entries {
+    for k in 0..entries {
         let kind = kind_at(work, k);
         holders += holds(kind);
         definitions += defines(kind);
-        k += 1;
     }
     Weight {
         holders,

@@ -9,9 +9,9 @@ ghost use Rattle.recordings.specs.Lasso.{next};
 ghost use Rattle.recordings.specs.Promise.{Recorded};
 
 use basics::told;
-use bits::{digit, get_bit};
-use node::Answer;
+use bits::get_bit;
 use node::refusals::BAD_RECORDING;
+use node::{Answer, Refusal};
 
 // A recording has 1 to 2,048 positions.
 pub const MAX_POSITIONS: usize = 2048;
@@ -63,11 +63,9 @@ fn field(bytes: &[u8], at: usize, count: usize) -> u32
     ensures { result ≡ field_at bytes.now at count }
 {
     let mut v: u32 = 0;
-    let mut i: usize = 0;
-    while i < count {
+    for i in 0..count {
         let b = get_bit(bytes, at + i);
-        v = v * 2 + digit(b);
-        i += 1;
+        v = v * 2 + u32::from(b);
     }
     v
 }
@@ -95,12 +93,10 @@ fn blank(bytes: &[u8], from: usize, to: usize) -> bool
     requires { (to ≤ 8 * length bytes.now) × (to < 2 ^ 32) }
     ensures { result ≡ blank' bytes.now from (to - from) }
 {
-    let mut i = from;
-    while i < to {
+    for i in from..to {
         if get_bit(bytes, i) {
             return false;
         }
-        i += 1;
     }
     true
 }
@@ -113,12 +109,18 @@ fn check_letters(recording: &[u8], lasso: Lasso) -> Answer
     let len = recording.len();
     let bits = lasso.n * lasso.k;
     if len != HEADER_BYTES + (bits + 7) / 8 {
-        return Answer::Refused(BAD_RECORDING, told(len));
+        return Err(Refusal {
+            number: BAD_RECORDING,
+            place: told(len),
+        });
     }
     if !blank(recording, HEADER_BITS + bits, 8 * len) {
-        return Answer::Refused(BAD_RECORDING, (len - 1) as u32);
+        return Err(Refusal {
+            number: BAD_RECORDING,
+            place: (len - 1) as u32,
+        });
     }
-    Answer::Accepted(lasso.n as u32, lasso.k as u32)
+    Ok((lasso.n as u32, lasso.k as u32))
 }
 
 // Is the recording one of the format, for so many signals? Accepted with its numbers of positions and signals.
@@ -127,11 +129,17 @@ pub fn check_recording(recording: &[u8], signals: u32) -> Answer
 {
     let len = recording.len();
     if len < HEADER_BYTES {
-        return Answer::Refused(BAD_RECORDING, len as u32);
+        return Err(Refusal {
+            number: BAD_RECORDING,
+            place: len as u32,
+        });
     }
     let lasso = read_lasso(recording);
     if !header_fits(lasso, signals) {
-        return Answer::Refused(BAD_RECORDING, 0);
+        return Err(Refusal {
+            number: BAD_RECORDING,
+            place: 0,
+        });
     }
     check_letters(recording, lasso)
 }

@@ -1,10 +1,8 @@
 -- What `rewrite` promises: the answer and the buffer that the definition gives; and so, where it accepts, demand 3 on the nodes left in the buffer.
-use Rattle.std.specs.Prelude.{ℕ, ◌-◌, ◌≡◌, ◌↔◌, List, length, take}
+use Rattle.std.specs.Prelude.{ℕ, ◌-◌, ◌≡◌, ◌↔◌, List, length, take, Ok}
 use Rattle.node.specs.Ltl.{Word, Holds}
 use Rattle.node.specs.Table.{root, NodeHolds}
-use Rattle.node.specs.Answer.{says}
-use Rattle.node.specs.declared.Answer.{Answer}
-use Rattle.node.specs.declared.Answer.TheVariants.{Accepted}
+use Rattle.node.specs.Answer.{Answer, says}
 use Rattle.forms.specs.Forbidden.{forbidden}
 use Rattle.rewriter.specs.Rewriting.{rewriting, rewritten}
 
@@ -14,6 +12,6 @@ pub record Rewrites (form : ℕ) (nodes out out' : List ℕ) (r : Answer) : Type
   -- the result buffer is the definition's
   pub buffer : out' ≡ rewritten form nodes out
   -- accepted: the last node written holds where the table's root does, at every position of every word
-  pub meaning : (n s : ℕ) → r ≡ Accepted n s → (w : Word) (t : ℕ) → NodeHolds out' (n - 1) w t ↔ Holds (root nodes) w t
+  pub meaning : (n s : ℕ) → r ≡ Ok (n, s) → (w : Word) (t : ℕ) → NodeHolds out' (n - 1) w t ↔ Holds (root nodes) w t
   -- accepted: none of the nodes written is one that the form forbids
-  pub clean : (n s : ℕ) → r ≡ Accepted n s → forbidden form (take n out') ≡ 0
+  pub clean : (n s : ℕ) → r ≡ Ok (n, s) → forbidden form (take n out') ≡ 0

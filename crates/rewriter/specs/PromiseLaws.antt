@@ -1,14 +1,14 @@
 -- What `rewrite` promises follows from the answer and the buffer that the definition gives.
-use Rattle.std.specs.Prelude.{ℕ, ◌-◌, ◌<◌, ◌≤◌, ◌≡◌, ◌↔◌, List, length, take}
+use Rattle.std.specs.Prelude.{ℕ, ◌-◌, ◌<◌, ◌≤◌, ◌≡◌, ◌↔◌, List, length, take, Ok, Err}
 use Rattle.std.proofs.Common.{ap, ◌∙◌, sym}
 use Rattle.node.specs.Ltl.{Word, Holds}
 use Rattle.node.specs.Limits.{field_limit}
 use Rattle.node.specs.Result.{Result, Done, Counts}
 use Rattle.node.specs.Table.{root, NodeHolds, checked}
 use Rattle.node.specs.Written.{count}
-use Rattle.node.specs.Answer.{says}
-use Rattle.node.specs.declared.Answer.{Answer}
-use Rattle.node.specs.declared.Answer.TheVariants.{Accepted, Refused}
+use Rattle.node.specs.Answer.{Answer, says}
+use Rattle.node.specs.Returned.{refusal}
+use Rattle.node.specs.declared.Refusal.{Refusal}
 use Rattle.forms.specs.Forbidden.{forbidden}
 use Rattle.rewriter.specs.Rewriting.{target, rewriting, leaves, rewritten}
 use Rattle.rewriter.specs.RewritingLaws.{Accepts, accepts, written_holds, written_clean, rewriting-form, rewriting-table, rewriting_fit}
@@ -41,13 +41,12 @@ module _ (form : ℕ) (nodes out out' : List ℕ) where
       }
 
   -- the three ways of `rewrite`: the form, the table, and what is left of the answer
-  pub refused-form : 2 < form → out' ≡ out → Rewrites form nodes out out' (Refused 21 0)
-  refused-form h b = rewrites (Refused 21 0) (sym (rewriting-form form nodes (length out) h)) b
+  pub refused-form : 2 < form → out' ≡ out → Rewrites form nodes out out' (Err (refusal 21 0))
+  refused-form h b = rewrites (Err (refusal 21 0)) (sym (rewriting-form form nodes (length out) h)) b
 
-  pub refused-table : {a : Answer} {n p : ℕ} → form ≤ 2 → says a ≡ checked field_limit nodes → a ≡ Refused n p → out' ≡ out → Rewrites form nodes out out' a
-  refused-table {a} {n} {p} h e r b =
-      rw r (rewrites (Refused n p) (sym (rewriting-table form nodes (length out) h (sym e ∙ ap says r))) b)
+  pub refused-table : {a : Answer} {e : Refusal} → form ≤ 2 → says a ≡ checked field_limit nodes → a ≡ Err e → out' ≡ out → Rewrites form nodes out out' (Err e)
+  refused-table {e = e} h s r b = rewrites (Err e) (sym (rewriting-table form nodes (length out) h (sym s ∙ ap says r))) b
 
-  pub fitted : {a r : Answer} {n s : ℕ} → form ≤ 2 → says a ≡ checked field_limit nodes → a ≡ Accepted n s → Fitted (target form nodes) out out' r
+  pub fitted : {a r : Answer} {n s : ℕ} → form ≤ 2 → says a ≡ checked field_limit nodes → a ≡ Ok (n, s) → Fitted (target form nodes) out out' r
       → Rewrites form nodes out out' r
   fitted {a} {r} h e q f = rewrites r (f.answer ∙ sym (rewriting_fit form nodes (length out) h (sym e ∙ ap says q))) f.buffer

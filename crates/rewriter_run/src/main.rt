@@ -3,7 +3,6 @@
 
 ghost use Rattle.std.specs.Prelude.{◌<◌};
 
-use basics::least;
 use forms::{AS_EXPANDED, CORE_FORM, NEGATION_FORM};
 use node::Node;
 use std::io::{self, BufWriter, Write};
@@ -103,8 +102,7 @@ fn try_part(
     form: u32,
     out: &mut [u32],
 ) -> io::Result<()> {
-    let k = least(n, nodes.len());
-    try_form(to, name, &nodes[..k], form, out)
+    try_form(to, name, &nodes[..n.min(nodes.len())], form, out)
 }
 
 fn try_forms(

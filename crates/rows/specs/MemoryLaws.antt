@@ -84,6 +84,7 @@ written_as n base f g h e = record { kept = h.kept; right = λ p l. h.right p l 
     same p (yes d) = shown_in n f p d ∙ e p d ∙ sym (shown_in n g p d)
     same p (no d) = shown_out n f p (omega arith) ∙ sym (shown_out n g p (omega arith))
 
+-- bytes copied one by one
 pub copied_none : (from base count : ℕ) (bs : List ℕ) → Copied from base count 0 bs bs
 copied_none from base count bs = record { kept = kept_refl base count bs; same = λ k h. absurd (omega arith) }
 

@@ -1,5 +1,5 @@
 // The rows of G, F, U, R and W: all are v = g || (p && v one position later), from the value at the loop's start.
-ghost use Rattle.std.specs.Prelude.{◌≡◌, ◌<◌};
+ghost use Rattle.std.specs.Prelude.{◌≡◌, ◌<◌, true};
 ghost use Rattle.node.specs.Kinds.{shape_of};
 ghost use Rattle.rows.specs.Steps.{seed_of};
 ghost use Rattle.rows.specs.Memory.{Filled};
@@ -10,7 +10,7 @@ ghost use Rattle.rows.specs.Sweeping.{Swept, Held};
 
 use crate::{Op, Stretch, bytes, odd, words};
 use bits::get_bit;
-use bits::spans::{ONES, first_of, load, long_digit, ripple, store};
+use bits::spans::{ONES, first_of, load, ripple, store};
 use node::Node;
 use recordings::Lasso;
 
@@ -20,6 +20,7 @@ fn step(kind: u32, a: u64, b: u64, c: u64) -> u64
     requires c_bound { c < 2 }
     ensures { Goes kind a b c result }
 {
+    // An arm for each kind, since its operands go to other places of `ripple`; a closure would hide what `Goes` says of them.
     match kind {
         Node::GLOBALLY => ripple(a, 0, c),
         Node::FINALLY => ripple(ONES, a, c),
@@ -35,92 +36,52 @@ fn seed_of(kind: u32) -> bool
     ensures { result ≡ seed_of (shape_of kind) }
 {
     match kind {
-        Node::GLOBALLY => true,
-        Node::FINALLY => false,
-        Node::UNTIL => false,
-        Node::RELEASE => true,
+        Node::GLOBALLY | Node::RELEASE => true,
+        Node::FINALLY | Node::UNTIL => false,
         _ => true,
     }
 }
 
-// A pass backwards over a stretch from the value v after it; the value at its first position.
-fn sweep_spans(op: Op, base: usize, v: bool, s: Stretch, rows: &mut [u8]) -> bool
+// A pass backwards over a stretch from the value v after it; the value at its first position. Over a row that an earlier pass has filled it ends at the first span
+// whose first value stays as it was, since none before it can change.
+fn sweep_spans(op: Op, base: usize, v: bool, s: Stretch, filled: bool, rows: &mut [u8]) -> bool
     requires placed { Placed rows.old (end_of s) op base }
     requires temporal { Temporal op × Regular s }
+    requires held { filled ≡ true → Held (end_of s) s.from op base rows.old }
     ensures { Swept (end_of s) s.from op base v result rows.old rows.new }
 {
-    let kind = op.kind;
-    let first = op.first;
-    let second = op.second;
-    let from = s.from;
-    let size = s.size;
-    let count = s.count;
-    let mut c = long_digit(v);
-    let mut k = count;
-    while 0 < k {
-        let q = k - 1;
-        let p = from + size * q;
+    let Op {
+        kind,
+        first,
+        second,
+        ..
+    } = op;
+    let Stretch { from, count, size } = s;
+    let mut c = u64::from(v);
+    for k in (0..count).rev() {
+        let p = from + size * k;
         let a = load(rows, 8 * first + p, size);
         let b = load(rows, 8 * second + p, size);
         let r = step(kind, a, b, c);
-        store(rows, 8 * base + p, size, r);
         c = first_of(r, size);
-        k = q;
+        let was = get_bit(rows, 8 * base + p);
+        store(rows, 8 * base + p, size, r);
+        if filled && (c == 1) == was {
+            return get_bit(rows, 8 * base + from);
+        }
     }
     c == 1
 }
 
-// The same over a row that an earlier pass has filled: it ends at the first span whose first value stays as it was, since none before it can change.
-fn sweep_again(op: Op, base: usize, v: bool, s: Stretch, rows: &mut [u8]) -> bool
-    requires placed { Placed rows.old (end_of s) op base }
-    requires temporal { Temporal op × Regular s }
-    requires held { Held (end_of s) s.from op base rows.old }
-    ensures { Swept (end_of s) s.from op base v result rows.old rows.new }
-{
-    let kind = op.kind;
-    let first = op.first;
-    let second = op.second;
-    let from = s.from;
-    let size = s.size;
-    let count = s.count;
-    let mut d = long_digit(v);
-    let mut k = count;
-    while 0 < k {
-        let q = k - 1;
-        let p = from + size * q;
-        let a = load(rows, 8 * first + p, size);
-        let b = load(rows, 8 * second + p, size);
-        let r = step(kind, a, b, d);
-        d = first_of(r, size);
-        let was = get_bit(rows, 8 * base + p);
-        store(rows, 8 * base + p, size, r);
-        if (d == 1) == was {
-            return get_bit(rows, 8 * base + from);
-        }
-        k = q;
-    }
-    d == 1
-}
-
-// A pass over the whole row.
-fn sweep(n: usize, op: Op, base: usize, seed: bool, rows: &mut [u8]) -> bool
-    requires { Placed rows.old n op base × Temporal op }
+// A pass over the whole row, the first or a second one.
+fn sweep(n: usize, op: Op, base: usize, seed: bool, filled: bool, rows: &mut [u8]) -> bool
+    requires placed { Placed rows.old n op base × Temporal op }
+    requires held { filled ≡ true → Held n 0 op base rows.old }
     ensures { Swept n 0 op base seed result rows.old rows.new }
 {
-    let u = sweep_spans(op, base, seed, odd(n), rows);
-    let v = sweep_spans(op, base, u, bytes(n), rows);
-    sweep_spans(op, base, v, words(n), rows)
-}
-
-// A second one.
-fn again(n: usize, op: Op, base: usize, s: bool, rows: &mut [u8]) -> bool
-    requires placed { Placed rows.old n op base × Temporal op }
-    requires held { Held n 0 op base rows.old }
-    ensures { Swept n 0 op base s result rows.old rows.new }
-{
-    let u = sweep_again(op, base, s, odd(n), rows);
-    let v = sweep_again(op, base, u, bytes(n), rows);
-    sweep_again(op, base, v, words(n), rows)
+    let u = sweep_spans(op, base, seed, odd(n), filled, rows);
+    let v = sweep_spans(op, base, u, bytes(n), filled, rows);
+    sweep_spans(op, base, v, words(n), filled, rows)
 }
 
 // The row of an operator that goes round the loop: once around, and again from what was found at the loop's start where that is another value.
@@ -130,10 +91,10 @@ pub fn around_row(lasso: Lasso, op: Op, base: usize, rows: &mut [u8])
     ensures { Filled lasso.n base (loop_row rows.old lasso op) rows.old rows.new }
 {
     let seed = seed_of(op.kind);
-    sweep(lasso.n, op, base, seed, rows);
+    sweep(lasso.n, op, base, seed, false, rows);
     let s = get_bit(rows, 8 * base + lasso.l);
     if s == seed {
         return;
     }
-    again(lasso.n, op, base, s, rows);
+    sweep(lasso.n, op, base, s, true, rows);
 }

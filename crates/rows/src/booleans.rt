@@ -6,7 +6,6 @@ ghost use Rattle.rows.specs.Ready.{Placed, BooleanKind, Boolean, pair_row};
 ghost use Rattle.rows.specs.Booleans.{bytes_of, byte_steps, blanked, Bound};
 
 use crate::Op;
-use basics::u8_u32::wide;
 use bits::power;
 use bits::spans::{load_byte, load_word, store_byte, store_word};
 use node::Node;
@@ -25,7 +24,7 @@ fn word_step(kind: u32, x: u64, y: u64) -> u64
     }
 }
 
-// And of one.
+// And of one. `word_step` would set the other bytes of the number; one function for both would take the mask and what is known of it.
 fn byte_step(kind: u32, x: u64, y: u64) -> u64
     requires boolean_kind { BooleanKind kind }
     requires x_bound { (x < 256) × (y < 256) }
@@ -45,32 +44,35 @@ fn boolean_words(op: Op, base: usize, count: usize, rows: &mut [u8])
     requires { Boolean op × Bound rows.old op base count }
     ensures { rows.new ≡ byte_steps (shape_of op.kind) rows.old op.first op.second base (8 * (count / 8)) }
 {
-    let kind = op.kind;
-    let first = op.first;
-    let second = op.second;
-    let mut j = 0;
-    while j + 8 <= count {
+    let Op {
+        kind,
+        first,
+        second,
+        ..
+    } = op;
+    for i in 0..count / 8 {
+        let j = 8 * i;
         let x = load_word(rows, first + j);
         let y = load_word(rows, second + j);
         store_word(rows, base + j, word_step(kind, x, y));
-        j += 8;
     }
 }
 
-// `count` bytes singly.
+// `count` bytes singly. It differs from `boolean_words` in the reader, the writer and the step: one function would take all three.
 fn boolean_bytes(op: Op, base: usize, count: usize, rows: &mut [u8])
     requires { Boolean op × Bound rows.old op base count }
     ensures { rows.new ≡ byte_steps (shape_of op.kind) rows.old op.first op.second base count }
 {
-    let kind = op.kind;
-    let first = op.first;
-    let second = op.second;
-    let mut j = 0;
-    while j < count {
+    let Op {
+        kind,
+        first,
+        second,
+        ..
+    } = op;
+    for j in 0..count {
         let x = load_byte(rows, first + j);
         let y = load_byte(rows, second + j);
         store_byte(rows, base + j, byte_step(kind, x, y));
-        j += 1;
     }
 }
 
@@ -80,8 +82,7 @@ fn clear_spare(rows: &mut [u8], at: usize, s: usize)
     ensures { rows.new ≡ set rows.old at (blanked (get_or rows.old at 0) s) }
 {
     let p = power(s);
-    let x = wide(rows[at]);
-    rows[at] = (x / p * p) as u8;
+    rows[at] = (u32::from(rows[at]) / p * p) as u8;
 }
 
 // The row of an operator that looks at one position.
@@ -94,10 +95,9 @@ pub fn boolean_row(n: usize, op: Op, base: usize, rows: &mut [u8])
     let from = 8 * (count / 8);
     boolean_words(op, base, count, rows);
     let rest = Op {
-        kind: op.kind,
-        signal: op.signal,
         first: op.first + from,
         second: op.second + from,
+        ..op
     };
     boolean_bytes(rest, base + from, count - from, rows);
     let spare = 8 * count - n;

@@ -71,14 +71,11 @@ fn paired(op: Op) -> Op
     requires { Boolean op ⊎ Temporal op }
     ensures { result ≡ pair_op op }
 {
-    let kind = op.kind;
     let one = Op {
-        kind: op.kind,
-        signal: op.signal,
-        first: op.first,
         second: op.first,
+        ..op
     };
-    match kind {
+    match op.kind {
         Node::NOT => one,
         Node::GLOBALLY => one,
         Node::FINALLY => one,
@@ -132,9 +129,5 @@ pub fn copy_row(rows: &mut [u8], from: usize, base: usize, count: usize)
     requires { (from + count ≤ base) × (base + count ≤ length rows.old) }
     ensures { Copied from base count count rows.old rows.new }
 {
-    let mut i = 0;
-    while i < count {
-        rows[base + i] = rows[from + i];
-        i += 1;
-    }
+    rows.copy_within(from..from + count, base);
 }

@@ -12,7 +12,7 @@ ghost use Rattle.rows.specs.Plain.{Spot};
 
 use crate::{Op, Stretch, bytes, odd, words};
 use bits::get_bit;
-use bits::spans::{ONES, ahead, load, long_digit, store};
+use bits::spans::{ONES, ahead, load, store};
 use node::Node;
 use recordings::{Lasso, after, letter};
 
@@ -22,11 +22,9 @@ fn signal_span(recording: &[u8], lasso: Lasso, signal: usize, at: usize, size: u
     ensures { result ≡ number (λ q. letter_of recording.now lasso.k (at + q) signal) size }
 {
     let mut v: u64 = 0;
-    let mut i: usize = 0;
-    while i < size {
+    for i in 0..size {
         let b = letter(recording, lasso, at + i, signal);
-        v = v * 2 + long_digit(b);
-        i += 1;
+        v = v * 2 + u64::from(b);
     }
     v
 }
@@ -39,7 +37,7 @@ fn next_span(lasso: Lasso, first: usize, rows: &[u8], at: usize, size: usize) ->
     let x = load(rows, 8 * first + at, size);
     let q = after(lasso, at + size - 1);
     let b = get_bit(rows, 8 * first + q);
-    ahead(x, long_digit(b))
+    ahead(x, u64::from(b))
 }
 
 // The values of a constant, a signal or X.
@@ -48,8 +46,7 @@ fn span_value(recording: &[u8], lasso: Lasso, op: Op, rows: &[u8], at: usize, si
     requires plain { Plain op × Spot lasso at size }
     ensures { Span size (op_row recording.now rows.now lasso op) at result }
 {
-    let kind = op.kind;
-    match kind {
+    match op.kind {
         Node::TRUE => ONES,
         Node::FALSE => 0,
         Node::SIGNAL => signal_span(recording, lasso, op.signal, at, size),
@@ -63,15 +60,11 @@ fn plain_spans(recording: &[u8], lasso: Lasso, op: Op, base: usize, s: Stretch, 
     requires plain { Plain op × Inner lasso.n s }
     ensures { Part lasso.n base (op_row recording.now rows.old lasso op) s.from (end_of s) rows.old rows.new }
 {
-    let from = s.from;
-    let size = s.size;
-    let count = s.count;
-    let mut k = 0;
-    while k < count {
+    let Stretch { from, count, size } = s;
+    for k in 0..count {
         let p = from + size * k;
         let v = span_value(recording, lasso, op, rows, p, size);
         store(rows, 8 * base + p, size, v);
-        k += 1;
     }
 }
 

@@ -1,15 +1,16 @@
 -- The numbers between two bounds: the low bound, then the high one.
-use Rattle.std.specs.Prelude.{ℕ, ◌+◌, Bool, true, false, List, ◌≡◌, refl, eqb, get_or}
+use Rattle.std.specs.Prelude.{ℕ, ◌+◌, Bool, true, false, List, ◌≡◌, refl, eqb, get_or, Ok}
 use Rattle.std.proofs.Common.{sym, ap, ap₂, ◌∙◌, subst, arith}
 use Rattle.node.specs.Result.{Result, Done, ◌>>=◌}
 use Rattle.node.proofs.ResultLaws.{bind_again}
+use Rattle.node.specs.Returned.{Returned}
+use Rattle.machine.specs.declared.Move.TheVariants.{Next}
 use Rattle.language.specs.Tree.{Expr}
 use Rattle.language.specs.Values.{Value, Number, Set, number, between, value}
 use Rattle.language.proofs.Laws.Values.ValueLaws.{between_sane}
 use Rattle.entries.specs.Kinds as Kind
 use Rattle.operators.specs.Signs.{strict_at}
 use Rattle.name_values.proofs.KnownLaws.{known-between}
-use Rattle.sets.specs.declared.Worked.{Worked}
 use Rattle.operands.specs.Entries.{kind_at, place_at, number_at}
 use Rattle.operands.specs.KindLaws.{between-class}
 use Rattle.operands.specs.Working.{Source}
@@ -32,7 +33,6 @@ use Rattle.machine.specs.FlatLaws.{flat-top}
 use Rattle.machine.specs.BindLaws.{take-number, then_worth, set_last}
 use Rattle.machine.specs.OperandLaws.{operand-view, operand_as, two_operands}
 use Rattle.machine.specs.declared.Machine.{Machine}
-use Rattle.machine.specs.declared.Move.TheVariants.{Next}
 use Rattle.machine.specs.Entering.{Evaluates, Waiting}
 use Rattle.machine.specs.EnteringLaws.{works-value}
 use Rattle.set_steps.specs.MakingLaws.{makes}
@@ -85,7 +85,7 @@ bounds_starts {s} {mem} {m} k =
 
 -- the low bound has come
 module _ {s : Source} {mem : List ℕ} {m : Machine} (w : Waiting mem m Phase.low) where
-  pub low-steps : m.mode ≡ is_number → {mem' : List ℕ} {n : Machine} → Renewed mem mem' m Phase.high 0 m.value 0 (mode_of Evaluate) n → Takes s mem mem' m (Next n)
+  pub low-steps : m.mode ≡ is_number → {mem' : List ℕ} {n : Machine} → Renewed mem mem' m Phase.high 0 m.value 0 (mode_of Evaluate) n → Takes s mem mem' m (Ok (Next n))
   low-steps e q = record {
     turns = λ R x o out t.
         let v = by_phase t.frame Phase.low (top-phase t ∙ w.phase) in
@@ -111,7 +111,7 @@ module _ {s : Source} {mem : List ℕ} {m : Machine} (w : Waiting mem m Phase.lo
 
 -- the high bound has come
 module _ {s : Source} {mem : List ℕ} {m : Machine} (w : Waiting mem m Phase.high) where
-  pub high-steps : m.mode ≡ is_number → {mem' : List ℕ} {k j i p a : ℕ} {low : Bool} (r : Worked) → k ≡ get_or mem (m.frames + entry_field) 0 → j ≡ number_at s.work k → low ≡ strict_at j
+  pub high-steps : m.mode ≡ is_number → {mem' : List ℕ} {k j i p a : ℕ} {low : Bool} (r : Returned ℕ) → k ≡ get_or mem (m.frames + entry_field) 0 → j ≡ number_at s.work k → low ≡ strict_at j
       → i ≡ kind_at s.work k → p ≡ place_at s.work k → a ≡ get_or mem (m.frames + value_field) 0 → SetAt mem mem' m.top r (between p low (without_high i) a m.value) → Takes s mem mem' m (made m m.top r)
   high-steps e {mem'} {k} {j} {i} {p} {a} {low} r ek ej el ei ep ea g = record {
     turns = λ R x o out t.

@@ -1,10 +1,12 @@
 -- An element of braces has come: the next is worked out, or the set is made of the numbers.
-use Rattle.std.specs.Prelude.{ℕ, zero, suc, ◌+◌, ◌-◌, ◌≤◌, ◌<◌, true, List, [], ◌∷◌, ◌++◌, ◌≡◌, refl, length, get_or, take, drop, set as store}
+use Rattle.std.specs.Prelude.{ℕ, zero, suc, ◌+◌, ◌-◌, ◌≤◌, ◌<◌, true, List, [], ◌∷◌, ◌++◌, ◌≡◌, refl, length, get_or, take, drop, set as store, Ok}
 use Rattle.std.proofs.lemmas.Bool.{false≢true}
 use Rattle.std.proofs.Math.Option.{none}
 use Rattle.std.proofs.Common.{sym, ap, ap₂, ◌∙◌, subst, arith, add-zero, length-set, drop-set-lt}
 use Rattle.node.specs.Result.{◌>>=◌}
 use Rattle.node.proofs.ResultLaws.{bind_at}
+use Rattle.node.specs.Returned.{Returned}
+use Rattle.machine.specs.declared.Move.TheVariants.{Next}
 use Rattle.language.specs.Limits.{max_tokens, max_number}
 use Rattle.language.specs.Tokens.{tokens}
 use Rattle.language.specs.Tree.{Expr, Empty, Element}
@@ -17,7 +19,6 @@ use Rattle.entries.specs.Kinds as Kind
 use Rattle.entries.specs.Flat.{flat}
 use Rattle.entries.specs.Stored.{At}
 use Rattle.name_values.specs.World.{World}
-use Rattle.sets.specs.declared.Worked.{Worked}
 use Rattle.operands.specs.Entries.{kind_at, place_at}
 use Rattle.operands.specs.ClassLaws.{kind_of_lem}
 use Rattle.operands.specs.Working.{Source}
@@ -43,7 +44,6 @@ use Rattle.machine.specs.TakeLaws.{words, entry_word_lem, base_word, count_word,
 use Rattle.machine.specs.ContractLaws.{takes-next}
 use Rattle.machine.specs.OperandLaws.{topped-entry}
 use Rattle.machine.specs.declared.Machine.{Machine}
-use Rattle.machine.specs.declared.Move.TheVariants.{Next}
 use Rattle.machine.specs.Entering.{Waiting}
 use Rattle.value_steps.specs.Moves.{onward}
 use Rattle.set_steps.specs.MakingLaws.{makes}
@@ -124,7 +124,7 @@ module _ {s : Source} {mem : List ℕ} {m : Machine} (w : Waiting mem m Phase.el
       put-numbers h (eb ∙ base_word h) (ec ∙ count_word h ∙ h.at.counted) n.small
 
   -- it was the last: the numbers are made a set
-  pub element-ends : {mem' : List ℕ} {place : ℕ} (r : Worked) → (kind_at s.work (j - 1) ≡ Kind.element → ⊥) → place ≡ place_at s.work k
+  pub element-ends : {mem' : List ℕ} {place : ℕ} (r : Returned ℕ) → (kind_at s.work (j - 1) ≡ Kind.element → ⊥) → place ≡ place_at s.work k
       → SortedAt (store mem (base + count) m.value) mem' base (count + 1) r (limited place (set_of (take (count + 1) (drop base (store mem (base + count) m.value)))))
       → Takes s mem mem' m (made m base r)
   element-ends {mem'} {place} r q ep g = record {
@@ -165,7 +165,7 @@ module _ {s : Source} {mem : List ℕ} {m : Machine} (w : Waiting mem m Phase.el
   -- the next is worked out
   pub element_goes : {mem' : List ℕ} {d : ℕ} → kind_at s.work (j - 1) ≡ Kind.element → d ≡ element_at s.work (j - 1)
       → Framed (store mem (base + count) m.value) mem' m.frames (record { phase = Phase.elements; entry = j - 1; base = base; at = base; count = count + 1; value = k; other = 0 })
-      → Takes s mem mem' m (Next (onward m d (base + count + 1)))
+      → Takes s mem mem' m (Ok (Next (onward m d (base + count + 1))))
   element_goes {mem'} q ed f = takes-next (ap (λ (y : ℕ). onward m y (base + count + 1)) ed) (record {
     turns = λ R x o out t.
         let v = by_phase t.frame Phase.elements (top-phase t ∙ w.phase) in

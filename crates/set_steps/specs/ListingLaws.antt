@@ -1,9 +1,10 @@
 -- A set in braces: its first element is worked out first.
-use Rattle.std.specs.Prelude.{ℕ, ◌+◌, ◌-◌, ◌≤◌, ◌<◌, true, false, List, [], ◌≡◌, refl, length}
+use Rattle.std.specs.Prelude.{ℕ, ◌+◌, ◌-◌, ◌≤◌, ◌<◌, true, false, List, [], ◌≡◌, refl, length, Ok}
 use Rattle.std.proofs.Math.Option.{some}
 use Rattle.std.proofs.Common.{ap, ◌∙◌, subst, arith}
 use Rattle.node.specs.Result.{Result, Done, ◌>>=◌, guard}
 use Rattle.node.proofs.ResultLaws.{bind_again}
+use Rattle.machine.specs.declared.Move.TheVariants.{Next, Short}
 use Rattle.language.specs.Tokens.{Token}
 use Rattle.language.specs.Tree.{Expr, Listed}
 use Rattle.language.specs.Sets.{insert}
@@ -31,7 +32,6 @@ use Rattle.machine.specs.Openings.{opened}
 use Rattle.machine.specs.BindLaws.{set_last}
 use Rattle.machine.specs.OperandLaws.{operand-view, operand_as}
 use Rattle.machine.specs.declared.Machine.{Machine}
-use Rattle.machine.specs.declared.Move.TheVariants.{Next, Short}
 use Rattle.machine.specs.Entering.{Evaluates}
 use Rattle.machine.specs.EnteringLaws.{works-value}
 use Rattle.set_steps.specs.Braces.{element_at, Elementary}
@@ -79,7 +79,7 @@ listed-kind k = let e1 = k.from in let e2 = k.until in omega arith
 
 module _ {s : Source} {mem : List ℕ} {m : Machine} (k : Evaluates s.work m Kind.listed Kind.element) where
   -- no element
-  pub listing-empty : size_at s.work m.value ≡ 1 → Steps s mem mem m (Next (came m is_set 0 m.top))
+  pub listing-empty : size_at s.work m.value ≡ 1 → Steps s mem mem m (Ok (Next (came m is_set 0 m.top)))
   listing-empty z = record {
     turns = λ R x o out h.
         let e0 = k.mode in
@@ -94,7 +94,7 @@ module _ {s : Source} {mem : List ℕ} {m : Machine} (k : Evaluates s.work m Kin
         (record { mode_is = refl; count = refl; fine = record { few = omega arith; ordered = tt } }) (held_none mem m.top, on_top refl);
   }
 
-  pub listing_short : m.frames - m.top < frame_words + reserve + spare + m.value → Steps s mem mem m Short
+  pub listing_short : m.frames - m.top < frame_words + reserve + spare + m.value → Steps s mem mem m (Ok Short)
   listing_short l = record {
     turns = λ R x o out h.
         let e0 = k.mode in
@@ -117,7 +117,7 @@ module _ {s : Source} {mem : List ℕ} {m : Machine} (k : Evaluates s.work m Kin
     -- the first element is worked out
     pub listing-steps : {mem' : List ℕ} → m.top + (frame_words + reserve + spare + m.value) ≤ m.frames
         → Framed mem mem' (m.frames - frame_words) (record { phase = Phase.elements; entry = m.value - 1; base = m.top; at = m.top; count = 0; value = m.value; other = 0 })
-        → Steps s mem mem' m (Next (opened m (mode_of Evaluate) (element_at s.work (m.value - 1))))
+        → Steps s mem mem' m (Ok (Next (opened m (mode_of Evaluate) (element_at s.work (m.value - 1)))))
     listing-steps ro fr = record {
       turns = λ R x o out h.
           let e0 = k.mode in

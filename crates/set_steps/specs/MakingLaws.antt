@@ -1,13 +1,13 @@
 -- A frame makes a set of what has come: the set stands where the frame's values begin, or the answer is a refusal.
-use Rattle.std.specs.Prelude.{ℕ, ◌+◌, ◌≤◌, ◌<◌, Bool, false, List, [], ◌++◌, ◌≡◌, refl, length, get_or, take, drop}
+use Rattle.std.specs.Prelude.{ℕ, ◌+◌, ◌≤◌, ◌<◌, Bool, false, List, [], ◌++◌, ◌≡◌, refl, length, get_or, take, drop, Ok, Err}
 use Rattle.std.proofs.Common.{sym, ap, ◌∙◌, arith, add-zero, length-drop, length-take-le}
 use Rattle.node.specs.Result.{Result, ◌>>=◌}
 use Rattle.node.proofs.ResultLaws.{bind_at, bind_refused}
+use Rattle.node.specs.Returned.{Returned}
 use Rattle.language.specs.Values.{Value, Set}
 use Rattle.language.proofs.Laws.Basics.Results.{value_of, Within}
 use Rattle.language.proofs.Laws.Values.ValueLaws.{SaneSet}
 use Rattle.sets.specs.Answers.{SetIs}
-use Rattle.sets.specs.declared.Worked.{Worked}
 use Rattle.operands.specs.Working.{Source}
 use Rattle.memory_sets.specs.Places.{Outside}
 use Rattle.memory_sets.specs.PlacedLaws.{words_of_lem}
@@ -29,7 +29,7 @@ use Rattle.set_steps.specs.Making.{made}
 
 module _ {s : Source} {R : Realm s} {mem out : List ℕ} {m : Machine} {x : Result Came} {o : Began} {F : Frame} (h : TopOf R mem out m x o F) where
   -- w is the definition's answer g, in n words from the frame's base on
-  pub record Making (mem' : List ℕ) (base n : ℕ) (w : Worked) (g : Result (List ℕ)) : Type 0 where
+  pub record Making (mem' : List ℕ) (base n : ℕ) (w : Returned ℕ) (g : Result (List ℕ)) : Type 0 where
     pub no_forms : (holding F).forms ≡ []
     pub no_name : (holding F).binds ≡ false
     pub no_body : (holding F).inside ≡ false
@@ -42,8 +42,8 @@ module _ {s : Source} {R : Realm s} {mem out : List ℕ} {m : Machine} {x : Resu
     pub sane : Within SaneSet g
     pub same : apply F h.came ≡ (g >>= λ y. worth (Set y))
 
-  pub makes : {mem' : List ℕ} {base n : ℕ} (w : Worked) {g : Result (List ℕ)} → Making mem' base n w g → Turned R mem mem' out out m x o (made m base w)
-  makes {mem'} {base} {n} (Worked.Value i) p =
+  pub makes : {mem' : List ℕ} {base n : ℕ} (w : Returned ℕ) {g : Result (List ℕ)} → Making mem' base n w g → Turned R mem mem' out out m x o (made m base w)
+  makes {mem'} {base} {n} (Ok i) p =
       let u = room-under h in
       let u1 = u.values in
       let u2 = u.slots in
@@ -77,4 +77,4 @@ module _ {s : Source} {R : Realm s} {mem out : List ℕ} {m : Machine} {x : Resu
         noted = noted_kept mem mem' (words h).base below (omega arith) (omega arith) h.noted;
         lasting = lasting_kept mem mem' (words h).base below (omega arith) (omega arith) h.lasting;
       })
-  makes (Worked.Refused number place) p = refuses-late h p.kept.len (p.same ∙ ap (λ y. y >>= λ y. worth (Set y)) (sym p.set.says) ∙ bind_refused _ _ _ _ refl)
+  makes (Err r) p = refuses-late h p.kept.len (p.same ∙ ap (λ y. y >>= λ y. worth (Set y)) (sym p.set.says) ∙ bind_refused _ _ _ _ refl)

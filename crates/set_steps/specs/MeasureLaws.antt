@@ -3,6 +3,7 @@ use Rattle.std.specs.Prelude.{ℕ, ◌+◌, List, ◌≡◌, refl, get_or}
 use Rattle.std.proofs.Common.{sym, ap, ap₂, ◌∙◌, subst, arith}
 use Rattle.node.specs.Result.{Result, Done, ◌>>=◌}
 use Rattle.node.proofs.ResultLaws.{bind_again, bind_at}
+use Rattle.node.specs.Returned.{Returned}
 use Rattle.language.specs.Operators.{Measure, Measures}
 use Rattle.language.specs.Tree.{Expr}
 use Rattle.language.specs.Values.{Value, Number, set, measure, value}
@@ -11,7 +12,6 @@ use Rattle.entries.specs.Kinds as Kind
 use Rattle.name_values.proofs.KnownLaws.{known-prefixed}
 use Rattle.sets.specs.Answers.{says}
 use Rattle.sets.specs.Operators.{measurement}
-use Rattle.sets.specs.declared.Worked.{Worked}
 use Rattle.operators.specs.Tables.{prefix_code_at}
 use Rattle.operands.specs.Entries.{kind_at, place_at, number_at}
 use Rattle.operands.specs.KindLaws.{measure-class}
@@ -80,7 +80,7 @@ module _ {s : Source} {mem : List ℕ} {m : Machine} (w : Waiting mem m Phase.me
         let g = came-set t.realm t.began mem m h.came h.come e in
         placed mem (span_of m) g.set g.held g.count g.fine (set-under h e)
 
-    pub measured-steps : {k i p : ℕ} (r : Worked) → k ≡ get_or mem (m.frames + entry_field) 0 → i ≡ prefix_code_at (number_at s.work k) → p ≡ place_at s.work k
+    pub measured-steps : {k i p : ℕ} (r : Returned ℕ) → k ≡ get_or mem (m.frames + entry_field) 0 → i ≡ prefix_code_at (number_at s.work k) → p ≡ place_at s.work k
         → says r ≡ measure p (measurement i) (elements_at mem (span_of m)) → Takes s mem mem m (numbered (popped m) r)
     measured-steps {k} {i} {p} r ek ei ep q = record {
       turns = λ R x o out t.

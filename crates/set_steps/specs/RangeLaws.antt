@@ -1,14 +1,15 @@
 -- {x, y .. z}: the first number, the second, the last.
-use Rattle.std.specs.Prelude.{ℕ, ◌+◌, ◌-◌, ◌<◌, List, ◌≡◌, refl, get_or}
+use Rattle.std.specs.Prelude.{ℕ, ◌+◌, ◌-◌, ◌<◌, List, ◌≡◌, refl, get_or, Ok}
 use Rattle.std.proofs.Common.{sym, ap, ap₂, ◌∙◌, subst, arith}
 use Rattle.node.specs.Result.{Result, Done, ◌>>=◌}
 use Rattle.node.proofs.ResultLaws.{bind_again}
+use Rattle.node.specs.Returned.{Returned}
+use Rattle.machine.specs.declared.Move.TheVariants.{Next}
 use Rattle.language.specs.Tree.{Expr}
 use Rattle.language.specs.Values.{Value, Number, Set, number, range, value}
 use Rattle.language.proofs.Laws.Values.ValueLaws.{range_sane}
 use Rattle.entries.specs.Kinds as Kind
 use Rattle.name_values.proofs.KnownLaws.{known-range}
-use Rattle.sets.specs.declared.Worked.{Worked}
 use Rattle.operands.specs.Entries.{kind_at, size_at, place_at}
 use Rattle.operands.specs.Classes.{class_of}
 use Rattle.operands.specs.Working.{Source}
@@ -32,7 +33,6 @@ use Rattle.machine.specs.FlatLaws.{flat-top}
 use Rattle.machine.specs.BindLaws.{take-number, then_worth, set_last}
 use Rattle.machine.specs.OperandLaws.{operand-view, operand_as, three-operands}
 use Rattle.machine.specs.declared.Machine.{Machine}
-use Rattle.machine.specs.declared.Move.TheVariants.{Next}
 use Rattle.machine.specs.Entering.{Evaluates, Waiting}
 use Rattle.machine.specs.EnteringLaws.{works-value}
 use Rattle.set_steps.specs.MakingLaws.{makes}
@@ -88,7 +88,7 @@ module _ {s : Source} {mem : List ℕ} {m : Machine} (w : Waiting mem m Phase.ra
       let h = top_as t.top v.4 in
       topped-before t (subst (λ (j : ℕ). size_at s.work (j - 1) < j) (sym (entry_word_lem h)) h.at.waits.1.0)
 
-  pub first-steps : m.mode ≡ is_number → {mem' : List ℕ} {n : Machine} → RenewedBefore s.work mem mem' m Phase.range_second m.value (mode_of Evaluate) n → Takes s mem mem' m (Next n)
+  pub first-steps : m.mode ≡ is_number → {mem' : List ℕ} {n : Machine} → RenewedBefore s.work mem mem' m Phase.range_second m.value (mode_of Evaluate) n → Takes s mem mem' m (Ok (Next n))
   first-steps e q = record {
     turns = λ R x o out t.
         let v = by_phase t.frame Phase.range_first (top-phase t ∙ w.phase) in
@@ -113,7 +113,7 @@ module _ {s : Source} {mem : List ℕ} {m : Machine} (w : Waiting mem m Phase.ra
 
 -- the second number has come
 module _ {s : Source} {mem : List ℕ} {m : Machine} (w : Waiting mem m Phase.range_second) where
-  pub second-steps : m.mode ≡ is_number → {mem' : List ℕ} {a : ℕ} {n : Machine} → a ≡ get_or mem (m.frames + value_field) 0 → Renewed mem mem' m Phase.range_last 0 a m.value (mode_of Evaluate) n → Takes s mem mem' m (Next n)
+  pub second-steps : m.mode ≡ is_number → {mem' : List ℕ} {a : ℕ} {n : Machine} → a ≡ get_or mem (m.frames + value_field) 0 → Renewed mem mem' m Phase.range_last 0 a m.value (mode_of Evaluate) n → Takes s mem mem' m (Ok (Next n))
   second-steps e ea q = record {
     turns = λ R x o out t.
         let v = by_phase t.frame Phase.range_second (top-phase t ∙ w.phase) in
@@ -138,7 +138,7 @@ module _ {s : Source} {mem : List ℕ} {m : Machine} (w : Waiting mem m Phase.ra
 
 -- the last number has come
 module _ {s : Source} {mem : List ℕ} {m : Machine} (w : Waiting mem m Phase.range_last) where
-  pub last-steps : m.mode ≡ is_number → {mem' : List ℕ} {k p a b : ℕ} (r : Worked) → k ≡ get_or mem (m.frames + entry_field) 0 → p ≡ place_at s.work k → a ≡ get_or mem (m.frames + value_field) 0
+  pub last-steps : m.mode ≡ is_number → {mem' : List ℕ} {k p a b : ℕ} (r : Returned ℕ) → k ≡ get_or mem (m.frames + entry_field) 0 → p ≡ place_at s.work k → a ≡ get_or mem (m.frames + value_field) 0
       → b ≡ get_or mem (m.frames + other_field) 0 → SetAt mem mem' m.top r (range p a b m.value) → Takes s mem mem' m (made m m.top r)
   last-steps e {mem'} {k} {p} {a} {b} r ek ep ea eb g = record {
     turns = λ R x o out t.

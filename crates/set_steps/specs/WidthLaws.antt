@@ -1,8 +1,10 @@
 -- SIZEOF: the bus, then its width.
-use Rattle.std.specs.Prelude.{ℕ, ◌+◌, ◌*◌, ◌<◌, List, ◌≡◌, length}
+use Rattle.std.specs.Prelude.{ℕ, ◌+◌, ◌*◌, ◌<◌, List, ◌≡◌, length, Ok, Err}
 use Rattle.std.proofs.Math.Path.{refl, ap}
 use Rattle.std.proofs.Common.{sym, ◌∙◌, arith}
 use Rattle.node.specs.Result.{Result, Done, Refused, ◌>>=◌}
+use Rattle.node.specs.Returned.{refusal}
+use Rattle.machine.specs.declared.Move.TheVariants.{Next}
 use Rattle.language.specs.Limits.{max_names}
 use Rattle.language.specs.Operators.{WidthOf}
 use Rattle.language.specs.Tree.{Expr, Prefixed}
@@ -29,7 +31,6 @@ use Rattle.machine.specs.FlatLaws.{yields}
 use Rattle.machine.specs.ContractLaws.{takes-next}
 use Rattle.machine.specs.OperandLaws.{operand-view, operand_as, one-operand}
 use Rattle.machine.specs.declared.Machine.{Machine}
-use Rattle.machine.specs.declared.Move.TheVariants.{Next, Refused as Refuses}
 use Rattle.machine.specs.Entering.{Evaluates, Waiting}
 use Rattle.machine.specs.EnteringLaws.{works-value}
 use Rattle.machine.specs.FactLaws.{noted_width}
@@ -92,7 +93,7 @@ bus-width v e = rw e
 
 -- the bus has come
 module _ {s : Source} {mem : List ℕ} {m : Machine} (w : Waiting mem m Phase.width) where
-  pub sized_unsized : m.mode ≡ is_unsized → Takes s mem mem m (Refuses 13 m.value)
+  pub sized_unsized : m.mode ≡ is_unsized → Takes s mem mem m (Err (refusal 13 m.value))
   sized_unsized e = record {
     turns = λ R x o out t.
         let v = by_phase t.frame Phase.width (top-phase t ∙ w.phase) in
@@ -100,7 +101,7 @@ module _ {s : Source} {mem : List ℕ} {m : Machine} (w : Waiting mem m Phase.wi
         refuses h (not-sized R o mem m h.came h.come e);
   }
 
-  pub sized-misfits : (m.mode ≡ is_bus → ⊥) → (m.mode ≡ is_unsized → ⊥) → Takes s mem mem m (Refuses 9 0)
+  pub sized-misfits : (m.mode ≡ is_bus → ⊥) → (m.mode ≡ is_unsized → ⊥) → Takes s mem mem m (Err (refusal 9 0))
   sized-misfits e d = record {
     turns = λ R x o out t.
         let v = by_phase t.frame Phase.width (top-phase t ∙ w.phase) in
@@ -117,7 +118,7 @@ module _ {s : Source} {mem : List ℕ} {m : Machine} (w : Waiting mem m Phase.wi
         let d = (tells-bus t.realm.W m.mode m.value m.from u.value u.tells e).declared in
         (d, note_under h d)
 
-    pub sized-steps : {n : ℕ} {k r : Machine} → k ≡ popped m → r ≡ came k is_number n 0 → n ≡ note_at mem m.from note_number → Takes s mem mem m (Next r)
+    pub sized-steps : {n : ℕ} {k r : Machine} → k ≡ popped m → r ≡ came k is_number n 0 → n ≡ note_at mem m.from note_number → Takes s mem mem m (Ok (Next r))
     sized-steps {n} ek er en = takes-next (er ∙ ap (λ (y : Machine). came y is_number n 0) ek) (record {
       turns = λ R x o out t.
           let v = by_phase t.frame Phase.width (top-phase t ∙ w.phase) in

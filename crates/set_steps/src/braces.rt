@@ -3,15 +3,16 @@ ghost use Rattle.std.specs.Prelude.{◌≡◌};
 ghost use Rattle.entries.specs.Kinds as Kind;
 ghost use Rattle.machine.specs.Phases as Phase;
 ghost use Rattle.machine.specs.States.{Ready, Steps, Topped, Takes};
-ghost use Rattle.operands.specs.Working.{source};
+ghost use Rattle.operands.specs.Working.{view};
 ghost use Rattle.machine.specs.Entering.{Evaluates, Waiting};
 ghost use Rattle.set_steps.specs.Braces.{element_at, Elementary};
 
 use crate::making::made;
 use entries::kinds;
-use machine::{FRAME, Machine, Move, ROOM, Words, fields, frame, modes, phases};
+use machine::{FRAME, Machine, Move, ROOM, Stepped, Words, fields, frame, modes, phases};
 use memory_sets::sorted::sorted;
-use node::refusals;
+use node::{Refusal, refusals};
+use operands::Source;
 use operands::entry::{kind_at, place_at, size_at};
 
 // Where the expression of an element at entry j ends: the further elements stand behind it.
@@ -26,22 +27,22 @@ fn expression(work: &[u8], j: usize) -> usize
 }
 
 // No element: the empty set. Else the first is worked out.
-pub fn listing(text: &[u8], work: &[u8], refs: &[u16], memory: &mut [u32], m: Machine) -> Move
-    requires ready { Ready (source text.now work.now refs.now) memory.old m }
-    requires evaluates { Evaluates work.now m Kind.listed Kind.element }
-    ensures { Steps (source text.now work.now refs.now) memory.old memory.new m result }
+pub fn listing(source: &Source, memory: &mut [u32], m: Machine) -> Stepped
+    requires ready { Ready (view source.now) memory.old m }
+    requires evaluates { Evaluates source.now.work.now m Kind.listed Kind.element }
+    ensures { Steps (view source.now) memory.old memory.new m result }
 {
     let k = m.value;
     let top = m.top;
     let frames = m.frames;
-    if size_at(work, k as usize) == 1 {
-        return Move::Next(m.came(modes::SET, 0, top));
+    if size_at(source.work, k as usize) == 1 {
+        return Ok(Move::Next(m.came(modes::SET, 0, top)));
     }
     if frames - top < ROOM + k as usize {
-        return Move::Short;
+        return Ok(Move::Short);
     }
     let at = frames - FRAME;
-    let j = expression(work, (k - 1) as usize);
+    let j = expression(source.work, (k - 1) as usize);
     frame(
         memory,
         at,
@@ -55,26 +56,27 @@ pub fn listing(text: &[u8], work: &[u8], refs: &[u16], memory: &mut [u32], m: Ma
             other: 0,
         },
     );
-    Move::Next(Machine {
+    Ok(Move::Next(Machine {
         mode: modes::EVALUATE,
         value: j as u32,
         from: 0,
-        scope: m.scope,
-        depth: m.depth,
         top,
         frames: at,
-        nodes: m.nodes,
-    })
+        ..m
+    }))
 }
 
 // An element has come: it is put behind the others, and the next is worked out, if there is one.
-pub fn element(text: &[u8], work: &[u8], refs: &[u16], memory: &mut [u32], m: Machine) -> Move
-    requires topped { Topped (source text.now work.now refs.now) memory.old m }
+pub fn element(source: &Source, memory: &mut [u32], m: Machine) -> Stepped
+    requires topped { Topped (view source.now) memory.old m }
     requires waiting { Waiting memory.old m Phase.elements }
-    ensures { Takes (source text.now work.now refs.now) memory.old memory.new m result }
+    ensures { Takes (view source.now) memory.old memory.new m result }
 {
     if m.mode != modes::NUMBER {
-        return Move::Refused(refusals::WRONG_TYPE, 0);
+        return Err(Refusal {
+            number: refusals::WRONG_TYPE,
+            place: 0,
+        });
     }
     let at = m.frames;
     let j = memory[at + fields::ENTRY];
@@ -82,11 +84,16 @@ pub fn element(text: &[u8], work: &[u8], refs: &[u16], memory: &mut [u32], m: Ma
     let count = memory[at + fields::COUNT];
     let k = memory[at + fields::VALUE];
     memory[base + count as usize] = m.value;
-    if kind_at(work, j as usize - 1) != kinds::ELEMENT {
-        let r = sorted(memory, base, count as usize + 1, place_at(work, k as usize));
+    if kind_at(source.work, j as usize - 1) != kinds::ELEMENT {
+        let r = sorted(
+            memory,
+            base,
+            count as usize + 1,
+            place_at(source.work, k as usize),
+        );
         return made(m, base, r);
     }
-    let i = expression(work, j as usize - 1);
+    let i = expression(source.work, j as usize - 1);
     frame(
         memory,
         at,
@@ -100,14 +107,12 @@ pub fn element(text: &[u8], work: &[u8], refs: &[u16], memory: &mut [u32], m: Ma
             other: 0,
         },
     );
-    Move::Next(Machine {
+    Ok(Move::Next(Machine {
         mode: modes::EVALUATE,
         value: i as u32,
         from: 0,
-        scope: m.scope,
-        depth: m.depth,
         top: base + count as usize + 1,
         frames: at,
-        nodes: m.nodes,
-    })
+        ..m
+    }))
 }

@@ -1,5 +1,5 @@
 -- Laws of intersection and difference: an element's place in an ascending set tells whether it is one of them.
-use Rattle.std.specs.Prelude.{ℕ, zero, suc, ◌≤◌, ◌<◌, ◌≡◌, refl, Bool, true, false, not, ◌||◌, List, [], ◌∷◌, eqb, length, get_or, take}
+use Rattle.std.specs.Prelude.{ℕ, zero, suc, ◌≤◌, ◌<◌, ◌≡◌, refl, Bool, true, false, not, ◌||◌, List, [], ◌∷◌, eqb, length, get_or, take, Ok}
 use Rattle.std.proofs.Common.{sym, ap, ap₂, ◌∙◌, length-take, get_or-take, length-take-le, arith, eq-eqb, ne_eqb, le-leb}
 use Rattle.node.specs.Result.{Done}
 use Rattle.node.proofs.ResultLaws.{guard-pass}
@@ -15,7 +15,6 @@ use Rattle.sets.specs.Operators.{numbered, combination}
 use Rattle.sets.specs.OperatorLaws.{another}
 use Rattle.sets.specs.Listing.{Parted}
 use Rattle.sets.specs.Combined.{Ordered, selection, passing, Selected}
-use Rattle.sets.specs.declared.Worked.TheVariants.{Value}
 
 -- the combination is what passes
 pub selected_keep : (inside : Bool) (s t : List ℕ) → combine (selection inside) s t ≡ keep (passing inside t) s
@@ -89,7 +88,7 @@ selection_of k h = same (eqb k (combination_code Cap)) ∙ sym (another combinat
     same true = refl
     same false = refl
 
-pub selected_limited : (place : ℕ) (s a : List ℕ) (n : ℕ) → Selected s a n → SetIs (Value n) a (limited place s)
+pub selected_limited : (place : ℕ) (s a : List ℕ) (n : ℕ) → Selected s a n → SetIs (Ok n) a (limited place s)
 selected_limited place s a n h =
     let same = ap length h.same in
     let size = length-take n a in

@@ -4,10 +4,3 @@
 
 pub mod numbers;
 pub mod ranges;
-
-// A number, or how many elements a set has; or a refusal with number and place.
-#[derive(Clone, Copy)]
-pub enum Worked {
-    Value(u32),
-    Refused(u32, u32),
-}

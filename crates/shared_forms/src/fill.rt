@@ -11,7 +11,6 @@ ghost use Rattle.shared_forms.specs.Promise.{Builds};
 use crate::mark::{is_operand, place_of};
 use crate::recipes::{Step, TABLE_BYTES, count_at, source_at, step_at};
 use basics::either;
-use basics::u32_usize::wide;
 use node::{MAX_NODES, Node};
 use shared_table::put;
 
@@ -47,7 +46,7 @@ fn part(
     let b = step.second;
     if is_operand(kind, a) {
         let place = place_of(first, second, a);
-        return wide(notes[place]);
+        return notes[place] as usize;
     }
     let word = word_over(kind, first, numbers[a], numbers[b]);
     put(out, word)
@@ -71,15 +70,13 @@ fn compose(
     let second = source.second;
     let count = count_at(recipes, row);
     let mut numbers: [usize; PARTS] = [1; PARTS];
-    let mut j = 0;
-    while j < count {
+    for j in 0..count {
         let step = step_at(recipes, row, j);
         let r = part(step, first, second, &numbers, notes, out);
         if MAX_NODES < r {
             return r;
         }
         numbers[j] = r;
-        j += 1;
     }
     let last = count - 1;
     numbers[last]
@@ -119,13 +116,11 @@ pub fn fill(
     requires { (recipes.now ≡ recipes') × Building form nodes.now 0 notes.old out.old }
     ensures { Builds (form' form (root nodes.now)) out.old out.new result }
 {
-    let mut x = 0;
-    while x < 2 * nodes.len() {
+    for x in 0..2 * nodes.len() {
         let r = note_form(nodes, form, x, recipes, notes, out);
         if MAX_NODES < r {
             return r;
         }
-        x += 1;
     }
-    wide(notes[2 * (nodes.len() - 1)])
+    notes[2 * (nodes.len() - 1)] as usize
 }

@@ -56,11 +56,9 @@ fn ask(nodes: &[u32], form: u32, x: usize, recipes: &[u8; TABLE_BYTES], notes: &
     let first = source.first;
     let second = source.second;
     let count = count_at(recipes, row);
-    let mut j = 0;
-    while j < count {
+    for j in 0..count {
         let step = step_at(recipes, row, j);
         note(step, first, second, notes);
-        j += 1;
     }
 }
 

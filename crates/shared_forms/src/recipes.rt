@@ -3,7 +3,6 @@ ghost use Rattle.std.specs.Prelude.{◌≡◌, ◌+◌, ◌*◌, length};
 ghost use Rattle.shared_forms.specs.Templates.{recipes as recipes', recipe, list_of};
 ghost use Rattle.shared_forms.specs.Forming.{Row, Step as Step', StepIs, Place, SourceIs};
 
-use basics::{u8_u32, u8_usize};
 use forms::{AS_EXPANDED, NEGATION_FORM};
 use node::{KINDS, Node};
 
@@ -93,7 +92,7 @@ pub fn count_at(recipes: &[u8; TABLE_BYTES], row: usize) -> usize
     requires { Row recipes.now row }
     ensures { result ≡ length (recipe row) }
 {
-    u8_usize::wide(recipes[ROW * row])
+    usize::from(recipes[ROW * row])
 }
 
 // A node of a recipe. Its fields are numbers of earlier nodes, or the signal that stands for an operand's form.
@@ -109,9 +108,9 @@ pub fn step_at(recipes: &[u8; TABLE_BYTES], row: usize, j: usize) -> Step
     ensures { StepIs row j result.kind result.first result.second }
 {
     let at = ROW * row + 1 + 3 * j;
-    let kind = u8_u32::wide(recipes[at]);
-    let first = u8_usize::wide(recipes[at + 1]);
-    let second = u8_usize::wide(recipes[at + 2]);
+    let kind = u32::from(recipes[at]);
+    let first = usize::from(recipes[at + 1]);
+    let second = usize::from(recipes[at + 2]);
     Step {
         kind,
         first,

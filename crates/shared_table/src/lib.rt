@@ -6,7 +6,6 @@
 ghost use Rattle.std.specs.Prelude.{List, ◌≡◌, ℕ, ◌<◌, length, get_or};
 ghost use Rattle.shared_table.specs.Shared.{head_of, counted, Shares, Shared, Puts, Sought};
 
-use basics::u32_usize::wide;
 use node::MAX_NODES;
 
 // Behind the count stand the heads, and behind them three words for each node: the node and two links.
@@ -27,7 +26,7 @@ pub const NO_ROOM: usize = MAX_NODES + 1;
 fn head(word: u32) -> usize
     ensures { result ≡ head_of word }
 {
-    wide(word) * FACTOR / LOWER_BITS % HEADS + 1
+    word as usize * FACTOR / LOWER_BITS % HEADS + 1
 }
 
 // How many nodes there are.
@@ -35,7 +34,7 @@ pub fn count(out: &[u32]) -> usize
     requires { Shared out.now }
     ensures { (t : List ℕ) → Shares out.now t → result ≡ length t }
 {
-    wide(out[0])
+    out[0] as usize
 }
 
 // Node i's word; it asks that there is one.
@@ -51,7 +50,7 @@ fn append(out: &mut [u32], link: usize, word: u32) -> usize
     requires { Sought out.old word link }
     ensures { Puts out.old out.new word result }
 {
-    let next = wide(out[0]) + 1;
+    let next = out[0] as usize + 1;
     if MAX_NODES < next {
         return NO_ROOM;
     }
@@ -73,8 +72,9 @@ pub fn put(out: &mut [u32], word: u32) -> usize
     ensures { Puts out.old out.new word result }
 {
     let mut link = head(word);
-    let mut bits = wide(word);
-    let mut at = wide(out[link]);
+    let mut bits = word as usize;
+    let mut at = out[link] as usize;
+    // From link to link: no index counts.
     while at != 0 {
         let place = BEFORE + 3 * at;
         if out[place] == word {
@@ -82,7 +82,7 @@ pub fn put(out: &mut [u32], word: u32) -> usize
         }
         link = place + 1 + bits % 2;
         bits = bits / 2;
-        at = wide(out[link]);
+        at = out[link] as usize;
     }
     append(out, link, word)
 }

@@ -13,6 +13,7 @@ use node::{MAX_NODES, Node};
 use shared_table::put;
 
 // The index that stands for all past the last node.
+// The number is no missing value: what is made of such a formula or written after it goes on with it (specs/Writing).
 pub const TOO_MANY: usize = shared_table::NO_ROOM;
 
 // How many words an array has that holds a table of 8,192 nodes: the count, the heads, and three for each node.
@@ -83,18 +84,17 @@ pub fn join(op: u32, m: usize, n: usize, out: &mut [u32; TABLE]) -> usize
 }
 
 // n times a next over the node before m. Its number is one of sixteen, as above.
+// Not `nexts` of crate writing over another type: this table holds no node twice, so the contract is another (Shared, specs/Writing).
 pub fn nexts(next: u32, n: usize, m: usize, out: &mut [u32; TABLE]) -> usize
     requires { (next < kind_limit) × Shared out.old }
     ensures { Nexts next n out.old out.new m result }
 {
     let mut r = m;
-    let mut i = 0;
-    while i < n {
+    for i in 0..n {
         if MAX_NODES < r {
             return TOO_MANY;
         }
         r = cap(next, r, out);
-        i += 1;
     }
     r
 }
@@ -106,14 +106,12 @@ pub fn window(op: u32, next: u32, n: usize, m: usize, out: &mut [u32; TABLE]) ->
     ensures { Windowed op next n out.old out.new m result }
 {
     let mut r = m;
-    let mut i = 0;
-    while i < n {
+    for i in 0..n {
         if MAX_NODES < r {
             return TOO_MANY;
         }
         let later = cap(next, r, out);
         r = join(op, m, later, out);
-        i += 1;
     }
     r
 }

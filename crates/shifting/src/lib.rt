@@ -93,16 +93,13 @@ pub fn shift(
     }
     let mut numbers = [0u32; MAX_NODES];
     let mut at = 0;
-    let mut i = 0;
-    while i < m {
-        let word = table[i];
-        let late = is_late(word, list, outputs);
-        at = write(renumbered(word, &numbers), late, at, out);
+    for (i, word) in table[..m].iter().enumerate() {
+        let late = is_late(*word, list, outputs);
+        at = write(renumbered(*word, &numbers), late, at, out);
         if MAX_NODES < at {
             return TOO_MANY;
         }
         numbers[i] = (at - 1) as u32;
-        i += 1;
     }
     at
 }

@@ -1,47 +1,17 @@
 -- Slots that are written one after the other, and the names before each.
-use Rattle.std.specs.Prelude.{ℕ, zero, suc, ◌+◌, ◌*◌, ◌-◌, ◌<◌, ◌≤◌, ◌≡◌, refl, Bool, true, false, not, ◌&&◌, ◌||◌, List, [], ◌∷◌, ◌++◌, eqb, leb, length, take, drop, set, get_or}
-use Rattle.std.proofs.Common.{ap, ap₂, ◌∙◌, sym, append_assoc, length-drop, length-set, take-append-drop, drop-cons, take_at, drop_at, length-take-le, get_or-set_same, get_or-set_other, add-one, arith, below_more, eq-eqb, ne_eqb, le-leb}
+use Rattle.std.specs.Prelude.{ℕ, zero, suc, ◌+◌, ◌*◌, ◌<◌, ◌≤◌, ◌≡◌, refl, Bool, true, false, not, ◌&&◌, ◌||◌, List, [], ◌∷◌, ◌++◌, eqb, nat_eq, leb, length, take, drop, set, get_or}
+use Rattle.std.proofs.Common.{ap, ap₂, ◌∙◌, sym, append_assoc, length-drop, length-set, take-append-drop, drop-cons, take_at, drop_at, length-take-le, get_or-set_same, get_or-set_other, add-one, arith, below_more, le-leb}
 use Rattle.std.proofs.Math.Option.{Option, some}
 use Rattle.std.proofs.lemmas.List.Edits.{sets, sets-eq}
 use Rattle.std.proofs.lemmas.List.{take-append-le, drop-append-le}
 use Rattle.std.proofs.lemmas.Bool.{lt-leb}
+use Rattle.std.specs.Cmp.Lexicographic.{pointwise}
+use Rattle.std.proofs.Math.Decide.{dec_lt}
 use Rattle.language.specs.Limits.{max_name}
 use Rattle.language.specs.Bytes.{same}
 use Rattle.basic.specs.Writing.{taken, fault_from}
-use Rattle.signal_names.specs.Runs.{part_length}
 use Rattle.signal_names.specs.Promise.{slot_bytes, slot, Held, part}
 use Rattle.signal_names.specs.Slots.{earlier, PutsName}
-
--- the first byte of a part and the rest of it
-part-cons : (l : List ℕ) (i m : ℕ) → i < length l → part l i (suc m) ≡ get_or l i 0 ∷ part l (i + 1) m
-part-cons l i m h = ap (take (suc m)) (drop-cons l i 0 h) ∙ ap (λ (k : ℕ). get_or l i 0 ∷ part l k m) (sym (add-one i))
-
--- two parts compared byte by byte, from byte k on
-pub same_from : (l : List ℕ) (i j n : ℕ) → same (part l i n) (part l j n) ≡ same (part l (i + 0) (n - 0)) (part l (j + 0) (n - 0))
-same_from l i j n =
-    let z : n ≡ n - 0 = omega arith in
-    let a : i ≡ i + 0 = omega arith in
-    let b : j ≡ j + 0 = omega arith in
-    ap₂ same (ap₂ (part l) a z) (ap₂ (part l) b z)
-
-module _ (l : List ℕ) (i j n k : ℕ) (hi : i + n ≤ length l) (hj : j + n ≤ length l) where
-  abbrev pub rest : ℕ → ℕ → List ℕ
-  rest a m = part l (a + m) (n - m)
-
-  rest-cons : (a : ℕ) → a + n ≤ length l → k < n → rest a k ≡ get_or l (a + k) 0 ∷ rest a (k + 1)
-  rest-cons a h lt =
-      let d : n - k ≡ suc (n - (k + 1)) = omega arith in
-      let s : a + k + 1 ≡ a + (k + 1) = omega arith in
-      ap (part l (a + k)) d ∙ part-cons l (a + k) (n - (k + 1)) (omega arith) ∙ ap (λ (m : ℕ). get_or l (a + k) 0 ∷ part l m (n - (k + 1))) s
-
-  pub same_on : k < n → get_or l (i + k) 0 ≡ get_or l (j + k) 0 → same (rest i k) (rest j k) ≡ same (rest i (k + 1)) (rest j (k + 1))
-  same_on lt e = ap₂ same (rest-cons i hi lt) (rest-cons j hj lt) ∙ ap (λ (t : Bool). t && same (rest i (k + 1)) (rest j (k + 1))) (eq-eqb _ _ e)
-
-  pub same_stop : k < n → (get_or l (i + k) 0 ≡ get_or l (j + k) 0 → ⊥) → same (rest i k) (rest j k) ≡ false
-  same_stop lt e = ap₂ same (rest-cons i hi lt) (rest-cons j hj lt) ∙ ap (λ (t : Bool). t && same (rest i (k + 1)) (rest j (k + 1))) (ne_eqb _ _ e)
-
-  pub same_end : n ≤ k → same (rest i k) (rest j k) ≡ true
-  same_end h = let z : n - k ≡ 0 = omega arith in ap₂ (λ (a b : ℕ). same (part l (i + k) a) (part l (j + k) b)) z z
 
 -- bytes of unlike lengths are not the same
 pub same_lengths : (a b : List ℕ) → (length a ≡ length b → ⊥) → same a b ≡ false
@@ -54,31 +24,33 @@ same_lengths (x ∷ a) (y ∷ b) h = go (eqb x y) (same_lengths a b (λ e. h (ap
     go true e = e
     go false e = refl
 
+-- the bytes are those that `==` compares
+pub same-pointwise : (a b : List ℕ) → same a b ≡ pointwise nat_eq a b
+same-pointwise [] [] = refl
+same-pointwise [] (y ∷ b) = refl
+same-pointwise (x ∷ a) [] = refl
+same-pointwise (x ∷ a) (y ∷ b) = ap (λ (t : Bool). eqb x y && t) (same-pointwise a b)
+
+or-true : (b : Bool) → (b || true) ≡ true
+or-true true = refl
+or-true false = refl
+
 module _ (names sizes : List ℕ) where
-  slot-length : {k : ℕ} (j : ℕ) → Held names sizes k → j < k → length (slot names sizes j) ≡ get_or sizes j 0
-  slot-length j h l = part_length names (slot_bytes * j) (get_or sizes j 0) (omega (arith, h.small j l, h.room))
-
-  -- the name in a slot against one of another size, or of the same
-  pub other_size : {k : ℕ} (j at size : ℕ) → Held names sizes k → j < k → at + size ≤ length names → (get_or sizes j 0 ≡ size → ⊥)
-      → same (slot names sizes j) (part names at size) ≡ false
-  other_size j at size h l r ne =
-      let a = slot-length j h l in
-      let b = part_length names at size (omega arith) in
-      same_lengths (slot names sizes j) (part names at size) (λ e. ne (sym a ∙ e ∙ b))
-
   pub held_less : {k : ℕ} (j : ℕ) → Held names sizes k → j < k → Held names sizes (suc j)
   held_less j h l = let a = h.room in let b = h.sized in record { room = omega arith; sized = omega arith; small = λ i m. h.small i (omega arith) }
 
-  -- one slot more looked at
-  pub taken_step : (j : ℕ) (x : List ℕ) → 0 < j → taken (earlier names sizes j) x ≡ (same (slot names sizes (j - 1)) x || taken (earlier names sizes (j - 1)) x)
-  taken_step zero x h = absurd (omega arith)
-  taken_step (suc j) x h = let e : j ≡ suc j - 1 = omega arith in ap (λ (m : ℕ). same (slot names sizes m) x || taken (earlier names sizes m) x) e
+  -- a name that some slot has, or none
+  pub taken-found : (k j : ℕ) (x : List ℕ) → j < k → same (slot names sizes j) x ≡ true → taken (earlier names sizes k) x ≡ true
+  taken-found zero j x h e = absurd (omega arith)
+  taken-found (suc k) j x h e = go (dec_lt j k) (λ l. taken-found k j x l e)
+    where
+      go : Dec (j < k) → (j < k → taken (earlier names sizes k) x ≡ true) → taken (earlier names sizes (suc k)) x ≡ true
+      go (yes l) f = ap (λ (t : Bool). same (slot names sizes k) x || t) (f l) ∙ or-true (same (slot names sizes k) x)
+      go (no l) f = let last : j ≡ k = omega arith in ap (λ (t : Bool). t || taken (earlier names sizes k) x) (ap (λ (m : ℕ). same (slot names sizes m) x) (sym last) ∙ e)
 
-  pub taken-found : (j : ℕ) (x : List ℕ) {t u : Bool} → 0 < j → t ≡ same (slot names sizes (j - 1)) x → t ≡ true → taken (earlier names sizes j) x ≡ u → true ≡ u
-  taken-found j x h e f i = sym (taken_step j x h ∙ ap (λ (b : Bool). b || taken (earlier names sizes (j - 1)) x) (sym e ∙ f)) ∙ i
-
-  pub taken_on : (j : ℕ) (x : List ℕ) {t u : Bool} → 0 < j → t ≡ same (slot names sizes (j - 1)) x → t ≡ false → taken (earlier names sizes j) x ≡ u → taken (earlier names sizes (j - 1)) x ≡ u
-  taken_on j x h e f i = sym (taken_step j x h ∙ ap (λ (b : Bool). b || taken (earlier names sizes (j - 1)) x) (sym e ∙ f)) ∙ i
+  pub taken_none : (k : ℕ) (x : List ℕ) → ((j : ℕ) → j < k → same (slot names sizes j) x ≡ false) → taken (earlier names sizes k) x ≡ false
+  taken_none zero x h = refl
+  taken_none (suc k) x h = ap₂ ◌||◌ (h k (omega arith)) (taken_none k x (λ j l. h j (omega arith)))
 
 -- a part before what was written, and what was written
 module _ (l vs : List ℕ) (at : ℕ) (r : at + length vs ≤ length l) where

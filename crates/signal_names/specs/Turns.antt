@@ -1,7 +1,7 @@
 -- The names of a list's entries in turn, and what the last turn says.
 use Rattle.std.specs.Prelude.{ℕ, zero, suc, ◌+◌, ◌*◌, ◌<◌, ◌≤◌, ◌≡◌, refl, List, [], ◌∷◌, length, get_or}
 use Rattle.std.proofs.Common.{sym, ap, ◌∙◌, drop_of_length-le, arith}
-use Rattle.std.proofs.Math.Option.{none, some}
+use Rattle.std.proofs.Math.Option.{some}
 use Rattle.language.specs.Limits.{max_name}
 use Rattle.basic.specs.Spelling.{spelled, names_of}
 use Rattle.basic.specs.Writing.{fault_from}
@@ -26,7 +26,7 @@ module _ (text list : List ℕ) {names sizes : List ℕ} {k : ℕ} where
   pub found-fault : k < length list → fault_from [] 0 (names_of text list) ≡ some k → Spells text list names sizes k
   found-fault h e = record { within = omega arith; fault = λ _. e; none = λ n. absurd (omega arith); spelt = λ n. absurd (omega arith) }
 
-  pub found_none : k ≡ length list → Spelling names sizes (names_of text list) k → Spells text list names sizes k
+  pub found_none : k ≡ length list → Spelling names sizes (names_of text list) k → Spells text list names sizes (length list)
   found_none h s =
       let n = names-length text list in
       let over : length (names_of text list) ≤ k = omega arith in

@@ -18,10 +18,9 @@ pub fn put_bytes(from: &[u8], start: usize, n: usize, out: &mut [u8], at: usize)
     requires { (n ≤ length from.now - start) × (at + n ≤ length out.old) }
     ensures { Puts (part from.now start n) out.old out.new at result }
 {
-    let mut i = 0;
-    while i < n {
+    // no slices: no bytes may be asked for from a start past the end
+    for i in 0..n {
         out[at + i] = from[start + i];
-        i += 1;
     }
     at + n
 }
@@ -54,26 +53,19 @@ pub fn flag_of(entry: u32) -> u32
 fn is_name_byte(b: u8) -> bool
     ensures { result ≡ isNameByte' b }
 {
-    (97 <= b) & (b <= 122)
-        | (65 <= b) & (b <= 90)
-        | (b == 95)
-        | (b == 64)
-        | (48 <= b) & (b <= 57)
-        | (b == 39)
+    matches!(b, b'a'..=b'z' | b'A'..=b'Z' | b'_' | b'@' | b'0'..=b'9' | b'\'')
 }
 
 // How many bytes of a name stand at a place of the text.
 fn name_size(text: &[u8], at: usize) -> usize
     ensures { result ≡ run isNameByte' (drop at text.now) }
 {
-    let mut i = at;
-    while i < text.len() {
+    for i in at..text.len() {
         if !is_name_byte(text[i]) {
             return i - at;
         }
-        i += 1;
     }
-    i - at
+    text.len().saturating_sub(at)
 }
 
 fn put_digit(digit: u32, out: &mut [u8], at: usize) -> usize
@@ -121,30 +113,13 @@ fn put_name(text: &[u8], entry: u32, names: &mut [u8], at: usize) -> usize
     end - at
 }
 
-// Are the n bytes at i those at j?
-fn same(names: &[u8], i: usize, j: usize, n: usize) -> bool
-    requires { (i + n ≤ length names.now) × (j + n ≤ length names.now) }
-    ensures { result ≡ same' (part names.now i n) (part names.now j n) }
-{
-    let mut k = 0;
-    while k < n {
-        if names[i + k] != names[j + k] {
-            return false;
-        }
-        k += 1;
-    }
-    true
-}
-
 // Is the name in slot j the one at a place, of this size?
 fn in_slot(names: &[u8], sizes: &[usize], j: usize, at: usize, size: usize) -> bool
     requires { Held names.now sizes.now (suc j) × (at + size ≤ length names.now) }
     ensures { result ≡ same' (slot names.now sizes.now j) (part names.now at size) }
 {
-    if sizes[j] != size {
-        return false;
-    }
-    same(names, MAX_NAME * j, at, size)
+    let start = MAX_NAME * j;
+    names[start..start + sizes[j]] == names[at..at + size]
 }
 
 // Is the name in slot k, of this size, that of an earlier slot?
@@ -153,9 +128,7 @@ fn taken(names: &[u8], sizes: &[usize], k: usize, size: usize) -> bool
     ensures { result ≡ taken' (earlier names.now sizes.now k) (part names.now (slot_bytes * k) size) }
 {
     let at = MAX_NAME * k;
-    let mut j = k;
-    while 0 < j {
-        j -= 1;
+    for j in 0..k {
         if in_slot(names, sizes, j, at, size) {
             return true;
         }
@@ -168,9 +141,8 @@ pub fn spell(text: &[u8], list: &[u32], names: &mut [u8], sizes: &mut [usize]) -
     requires { (slot_bytes * length list.now + (max_name + 4) ≤ length names.old) × (length list.now ≤ length sizes.old) }
     ensures { Spells text.now list.now names.new sizes.new result }
 {
-    let mut k = 0;
-    while k < list.len() {
-        let size = put_name(text, list[k], names, MAX_NAME * k);
+    for (k, entry) in list.iter().enumerate() {
+        let size = put_name(text, *entry, names, MAX_NAME * k);
         if MAX_NAME < size {
             return k;
         }
@@ -178,7 +150,6 @@ pub fn spell(text: &[u8], list: &[u32], names: &mut [u8], sizes: &mut [usize]) -
             return k;
         }
         sizes[k] = size;
-        k += 1;
     }
-    k
+    list.len()
 }

@@ -33,8 +33,8 @@ fn number(
     spelt.nodes
 }
 
-// The numbers of all tokens that are names, in a tree of spellings that holds the empty one alone. It asks for what the lexer leaves and for arrays as `resolve`
-// makes them, and is called by `resolve_short` and `resolve_long` alone.
+// The numbers of all tokens that are names, in a tree of spellings that holds the empty one alone. It asks for what the lexer leaves and for arrays as
+// names' `resolve_with` makes them, and is called by it alone.
 pub fn intern(
     text: &[u8],
     work: &[u8],
@@ -47,9 +47,7 @@ pub fn intern(
     ensures { Interned (tokens text.now) count ids.new × (top ids.new ≤ length text.now + 1) }
 {
     let mut nodes = 1;
-    let mut j = 0;
-    while j < count {
+    for j in 0..count {
         nodes = number(text, work, count, j, links, byte, nodes, ids);
-        j += 1;
     }
 }

@@ -1,9 +1,7 @@
 // A tree of spellings in two arrays (specs/Trie): a name's node stands for its bytes, so that two names are equal where their nodes are. The children of a node stand in
 // a search tree by the bits of their bytes. Two bytes that agree in all eight are equal: no choice of names has a step pass more than eight other children.
-ghost use Rattle.std.specs.Prelude.{◌≡◌, ◌+◌, ◌≤◌, ◌<◌, length};
-ghost use Rattle.spellings.specs.Trie.{max_trie_nodes, Trie, Sought, nodes_with, Steps, Spells, part};
-
-use basics::{u8_usize, u16_usize};
+ghost use Rattle.std.specs.Prelude.{◌+◌, ◌≤◌, ◌<◌, length};
+ghost use Rattle.spellings.specs.Trie.{max_trie_nodes, Trie, Sought, Steps, Spells, part};
 
 // Of the three links of a node, the one to its first child; the others lead to further children of its parent, by a bit of the byte that is sought.
 const CHILD: usize = 2;
@@ -15,15 +13,16 @@ fn seek(links: &[u16], byte: &[u8], nodes: usize, node: usize, b: u8) -> usize
     ensures { (t : Trie links.now byte.now nodes) → Sought t node b result }
 {
     let mut link = 3 * node + CHILD;
-    let mut bits = u8_usize::wide(b);
-    let mut at = u16_usize::wide(links[link]);
+    let mut bits = usize::from(b);
+    let mut at = usize::from(links[link]);
+    // From link to link: no index counts up.
     while at != 0 {
         if byte[at] == b {
             return link;
         }
         link = 3 * at + bits % 2;
         bits = bits / 2;
-        at = u16_usize::wide(links[link]);
+        at = usize::from(links[link]);
     }
     link
 }
@@ -34,21 +33,13 @@ pub fn step(links: &mut [u16], byte: &mut [u8], nodes: usize, node: usize, b: u8
     ensures { (t : Trie links.old byte.old nodes) → Steps t node b links.new byte.new result }
 {
     let link = seek(links, byte, nodes, node, b);
-    let old = u16_usize::wide(links[link]);
+    let old = usize::from(links[link]);
     if old != 0 {
         return old;
     }
     byte[nodes] = b;
     links[link] = nodes as u16;
     nodes
-}
-
-// How many nodes there are once a node is reached; a node is one of the arrays', as `step` says.
-fn nodes_with(nodes: usize, node: usize) -> usize
-    requires { node < max_trie_nodes }
-    ensures { result ≡ nodes_with nodes node }
-{
-    if nodes <= node { node + 1 } else { nodes }
 }
 
 #[derive(Clone, Copy)]
@@ -72,11 +63,9 @@ pub fn spell(
 {
     let mut count = nodes;
     let mut node = 0;
-    let mut i = 0;
-    while i < len {
+    for i in 0..len {
         node = step(links, byte, count, node, text[at + i]);
-        count = nodes_with(count, node);
-        i += 1;
+        count = count.max(node + 1);
     }
     Spelt { node, nodes: count }
 }

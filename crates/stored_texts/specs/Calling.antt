@@ -1,6 +1,6 @@
 -- What the programs' calls promise: what the reader or the converter promises of the fronts of the buffers, and the rest of them as it was.
 use Rattle.std.specs.Prelude.{ℕ, min, List, ◌++◌, ◌≡◌, length, take, drop}
-use Rattle.node.specs.declared.Answer.{Answer}
+use Rattle.node.specs.Answer.{Answer}
 use Rattle.claim.specs.Reads.{Reads}
 use Rattle.claim.specs.Converts.{Converts}
 use Rattle.stored_texts.specs.declared.calls.Call.{Call}

@@ -1,7 +1,7 @@
 -- A call of the reader or the converter, with the fronts of the buffers, keeps what a call promises.
 use Rattle.std.specs.Prelude.{ℕ, min, List, ◌++◌, ◌≡◌, length, take, drop}
 use Rattle.std.proofs.Common.{sym, ap, subst}
-use Rattle.node.specs.declared.Answer.{Answer}
+use Rattle.node.specs.Answer.{Answer}
 use Rattle.claim.specs.Reads.{Reads}
 use Rattle.claim.specs.Converts.{Converts}
 use Rattle.stored_texts.specs.declared.calls.Call.{Call}

@@ -4,7 +4,6 @@ ghost use Rattle.node.specs.Limits.{max_nodes, max_signals};
 ghost use Rattle.language.specs.Limits.{work_bytes};
 ghost use Rattle.stored_texts.specs.Calling.{Calls, CallsWith};
 
-use basics::least;
 use language::limits;
 use node::{Answer, MAX_NODES, MAX_SIGNALS};
 
@@ -62,9 +61,9 @@ pub fn call_with(
 ) -> Answer
     ensures { CallsWith room how text.now work.old nodes.old signals.old work.new nodes.new signals.new result }
 {
-    let w = least(room.work, work.len());
-    let n = least(room.nodes, nodes.len());
-    let s = least(room.signals, signals.len());
+    let w = room.work.min(work.len());
+    let n = room.nodes.min(nodes.len());
+    let s = room.signals.min(signals.len());
     call_lending(
         how,
         text,

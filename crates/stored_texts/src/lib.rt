@@ -28,6 +28,7 @@ fn say_text(to: &mut impl Write, detail: Detail, name: &[u8], text: &[u8]) -> io
 
 fn all_texts(to: &mut impl Write, detail: Detail, file: &[u8]) -> io::Result<()> {
     let mut at = 0;
+    // A text of any size at a time.
     while at < file.len() {
         let piece = piece_at(file, at);
         let name = piece.name;

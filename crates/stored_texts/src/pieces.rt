@@ -29,11 +29,12 @@ fn find(file: &[u8], at: usize, byte: u8) -> usize
     file.len()
 }
 
+// `count` places on, or the end.
 fn past(at: usize, count: usize, end: usize) -> usize
     requires { at ≤ end }
     ensures { result ≡ min (at + count) end }
 {
-    if count <= end - at { at + count } else { end }
+    at + count.min(end - at)
 }
 
 // The text whose name starts at `at`.

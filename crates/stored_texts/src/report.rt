@@ -4,27 +4,27 @@ use crate::print;
 use crate::print::say;
 use forms::{AS_EXPANDED, CORE_FORM, NEGATION_FORM};
 use language::limits::WORK_BYTES;
-use node::{Answer, MAX_NODES, MAX_SIGNALS};
+use node::{MAX_NODES, MAX_SIGNALS};
 use std::io::{self, Write};
 
 // The most nodes of a text that are listed.
 const LISTED: u32 = 40;
 
-// Calls with so much room lent, and prints the answer.
+// Calls with so much room lent, and prints the answer; the counts, where it is accepted.
 fn say_call(
     to: &mut impl Write,
     title: &[u8],
     how: Call,
     text: &[u8],
     room: Room,
-) -> io::Result<Answer> {
+) -> io::Result<Option<(u32, u32)>> {
     let mut work = input::large_buffer();
     let mut nodes: [u32; MAX_NODES] = [0; MAX_NODES];
     let mut signals: [u32; MAX_SIGNALS] = [0; MAX_SIGNALS];
     let answer = call_with(how, text, room, &mut work, &mut nodes, &mut signals);
     say(to, title)?;
     print::answer(to, answer, &nodes, &signals)?;
-    Ok(answer)
+    Ok(answer.ok())
 }
 
 // The reader's answer and the converter's in each form, in one line.
@@ -36,10 +36,6 @@ pub fn line(to: &mut impl Write, name: &[u8], text: &[u8]) -> io::Result<()> {
     say_call(to, b"; form 1 ", Call::Convert(NEGATION_FORM), text, ample)?;
     say_call(to, b"; form 2 ", Call::Convert(CORE_FORM), text, ample)?;
     say(to, b"\n")
-}
-
-fn one_less(n: usize) -> usize {
-    if n == 0 { 0 } else { n - 1 }
 }
 
 // An accepted call again, with exactly the room that is due and with one node or one signal less.
@@ -58,13 +54,13 @@ fn say_rooms(
     };
     let a_node_short = Room {
         work,
-        nodes: one_less(nodes),
+        nodes: nodes.saturating_sub(1),
         signals,
     };
     let a_signal_short = Room {
         work,
         nodes,
-        signals: one_less(signals),
+        signals: signals.saturating_sub(1),
     };
     say_call(to, b"; room as due ", how, text, due)?;
     say_call(to, b"; a node short ", how, text, a_node_short)?;
@@ -80,9 +76,9 @@ fn say_tries(to: &mut impl Write, title: &[u8], how: Call, text: &[u8]) -> io::R
         nodes: MAX_NODES,
         signals: MAX_SIGNALS,
     };
-    let answer = say_call(to, title, how, text, ample)?;
+    let counts = say_call(to, title, how, text, ample)?;
     say_call(to, b"; work a byte short ", how, text, short)?;
-    if let Answer::Accepted(n, s) = answer {
+    if let Some((n, s)) = counts {
         say_rooms(to, how, text, n as usize, s as usize)?;
     }
     say(to, b"\n")
@@ -94,13 +90,13 @@ fn list(to: &mut impl Write, text: &[u8]) -> io::Result<()> {
     let mut nodes: [u32; MAX_NODES] = [0; MAX_NODES];
     let mut signals: [u32; MAX_SIGNALS] = [0; MAX_SIGNALS];
     let answer = reader::read(text, &mut work, &mut nodes, &mut signals);
-    if let Answer::Accepted(n, s) = answer {
-        if n <= LISTED {
+    match answer {
+        Ok((n, s)) if n <= LISTED => {
             listing::nodes(to, &nodes, n as usize)?;
-            print::signals(to, &signals, s as usize)?;
+            print::signals(to, &signals, s as usize)
         }
+        _ => Ok(()),
     }
-    Ok(())
 }
 
 // All answers on a text, and what a small one gives.

@@ -2,8 +2,6 @@
 ghost use Rattle.std.specs.Prelude.{◌≡◌, take};
 ghost use Rattle.stored_texts.specs.Checksum.{mixed, checksum as checksum'};
 
-use basics::least;
-
 const FACTOR: u64 = 257;
 
 // The largest prime below 2 to the 32.
@@ -12,7 +10,7 @@ const MODULUS: u64 = 4294967291;
 fn mix(sum: u32, word: u32) -> u32
     ensures { result ≡ mixed sum word }
 {
-    ((sum as u64 * FACTOR + word as u64) % MODULUS) as u32
+    ((u64::from(sum) * FACTOR + u64::from(word)) % MODULUS) as u32
 }
 
 #[tactic(auto, using(crate::proofs::Laws::summing_start, crate::proofs::Laws::summing_end))]
@@ -30,6 +28,5 @@ fn checksum(words: &[u32]) -> u32
 pub fn checksum_of(words: &[u32], n: usize) -> u32
     ensures { result ≡ checksum' (take n words.now) }
 {
-    let end = least(n, words.len());
-    checksum(&words[..end])
+    checksum(&words[..n.min(words.len())])
 }

@@ -1,5 +1,5 @@
 -- X[n]: its number, its formula, then the nodes of X.
-use Rattle.std.specs.Prelude.{ℕ, suc, ◌+◌, min, List, ◌≡◌, refl, get_or}
+use Rattle.std.specs.Prelude.{ℕ, suc, ◌+◌, min, List, ◌≡◌, refl, get_or, Ok}
 use Rattle.std.proofs.Common.{sym, ap, ◌∙◌, arith}
 use Rattle.node.specs.Limits.{max_nodes}
 use Rattle.node.specs.Operators.{X}
@@ -7,6 +7,7 @@ use Rattle.node.specs.Kinds.{unary_kind}
 use Rattle.node.specs.Ltl.{Formula}
 use Rattle.node.specs.Result.{Result, Done, ◌>>=◌}
 use Rattle.node.proofs.ResultLaws.{bind_at}
+use Rattle.machine.specs.declared.Move.TheVariants.{Next}
 use Rattle.writing.specs.Writing.{Wrote, Nexts}
 use Rattle.writing.specs.StayLaws.{begins_stays, begins-nexts}
 use Rattle.language.specs.Tree.{Expr}
@@ -35,7 +36,6 @@ use Rattle.machine.specs.FormulaLaws.{formula-laid, finishes}
 use Rattle.machine.specs.BindLaws.{take-number, take-formula, then_nodes}
 use Rattle.machine.specs.OperandLaws.{operand_as, two_operands}
 use Rattle.machine.specs.declared.Machine.{Machine}
-use Rattle.machine.specs.declared.Move.TheVariants.{Next}
 use Rattle.machine.specs.Entering.{Expands, Waiting}
 use Rattle.machine.specs.EnteringLaws.{works-formula, operand_making}
 
@@ -78,7 +78,7 @@ repetition_starts {s} {mem} {m} k =
 
 -- the number has come
 module _ {s : Source} {mem : List ℕ} {m : Machine} (w : Waiting mem m Phase.repeat) where
-  pub number-steps : m.mode ≡ is_number → {mem' : List ℕ} {n : Machine} → Renewed mem mem' m Phase.repeated 0 m.value 0 (mode_of Expand) n → Takes s mem mem' m (Next n)
+  pub number-steps : m.mode ≡ is_number → {mem' : List ℕ} {n : Machine} → Renewed mem mem' m Phase.repeated 0 m.value 0 (mode_of Expand) n → Takes s mem mem' m (Ok (Next n))
   number-steps e q = record {
     turns = λ R x o out t.
         let v = by_phase t.frame Phase.repeat (top-phase t ∙ w.phase) in
@@ -103,7 +103,7 @@ module _ {s : Source} {mem : List ℕ} {m : Machine} (w : Waiting mem m Phase.re
 module _ {s : Source} {mem out : List ℕ} {m : Machine} (w : Waiting mem m Phase.repeated) where
   pub repeated-steps : m.mode ≡ is_nodes → {a r n : ℕ} {out' : List ℕ} → a ≡ get_or mem (m.frames + value_field) 0 → Nexts (unary_kind X) a out out' m.nodes r
       → n ≡ min r (suc max_nodes)
-      → TakesToWrite s mem mem out out' m (Next (wrote (popped m) n))
+      → TakesToWrite s mem mem out out' m (Ok (Next (wrote (popped m) n)))
   repeated-steps e {a} {r} {n} {out'} ea j en = record {
     turns = λ R x o t.
         let v = by_phase t.frame Phase.repeated (top-phase t ∙ w.phase) in

@@ -1,5 +1,5 @@
 -- An operator of one formula: its operand, then its node.
-use Rattle.std.specs.Prelude.{ℕ, suc, ◌+◌, ◌<◌, min, List, ◌≡◌, refl, get_or}
+use Rattle.std.specs.Prelude.{ℕ, suc, ◌+◌, ◌<◌, min, List, ◌≡◌, refl, get_or, Ok}
 use Rattle.std.proofs.Common.{sym, ap, ◌∙◌, subst, arith}
 use Rattle.node.specs.Limits.{max_nodes}
 use Rattle.node.specs.Operators.{Unary}
@@ -7,6 +7,7 @@ use Rattle.node.specs.Kinds.{unary_kind}
 use Rattle.node.specs.Ltl.{Formula, One}
 use Rattle.node.specs.Result.{Result, Done, ◌>>=◌}
 use Rattle.node.proofs.ResultLaws.{bind_at}
+use Rattle.machine.specs.declared.Move.TheVariants.{Next}
 use Rattle.writing.specs.Writing.{Caps}
 use Rattle.writing.specs.StayLaws.{one_stays}
 use Rattle.language.specs.Operators.{Applies}
@@ -35,7 +36,6 @@ use Rattle.machine.specs.FormulaLaws.{formula-laid, finishes}
 use Rattle.machine.specs.BindLaws.{take-formula, then_nodes}
 use Rattle.machine.specs.OperandLaws.{operand_as, one-operand}
 use Rattle.machine.specs.declared.Machine.{Machine}
-use Rattle.machine.specs.declared.Move.TheVariants.{Next}
 use Rattle.machine.specs.Entering.{Expands, Waiting}
 use Rattle.machine.specs.EnteringLaws.{works-formula, operand_making}
 
@@ -80,7 +80,7 @@ module _ {s : Source} {mem out : List ℕ} {m : Machine} (w : Waiting mem m Phas
       subst (λ (j : ℕ). j < 16) (sym e) (unary-small v.0)
 
   pub capping-steps : m.mode ≡ is_nodes → {k op r n : ℕ} {out' : List ℕ} → k ≡ get_or mem (m.frames + entry_field) 0 → op ≡ prefix_code_at (number_at s.work k) → Caps op out out' m.nodes r
-      → n ≡ min r (suc max_nodes) → TakesToWrite s mem mem out out' m (Next (wrote (popped m) n))
+      → n ≡ min r (suc max_nodes) → TakesToWrite s mem mem out out' m (Ok (Next (wrote (popped m) n)))
   capping-steps e {k} {op} {r} {n} {out'} ek eo j en = record {
     turns = λ R x o t.
         let v = by_phase t.frame Phase.capping (top-phase t ∙ w.phase) in

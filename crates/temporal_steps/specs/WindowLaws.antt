@@ -1,5 +1,5 @@
 -- F[n:m] and G[n:m]: the two numbers, the formula, then its chain and the nodes of X.
-use Rattle.std.specs.Prelude.{ℕ, suc, ◌+◌, ◌-◌, ◌≤◌, ◌<◌, min, Bool, true, false, List, ◌≡◌, refl, leb, get_or}
+use Rattle.std.specs.Prelude.{ℕ, suc, ◌+◌, ◌-◌, ◌≤◌, ◌<◌, min, Bool, true, false, List, ◌≡◌, refl, leb, get_or, Ok, Err}
 use Rattle.std.proofs.Common.{sym, ap, ap₂, ◌∙◌, subst, arith, le-leb, ne_eqb}
 use Rattle.std.proofs.lemmas.Bool.{lt-leb}
 use Rattle.node.specs.Limits.{max_nodes}
@@ -8,6 +8,8 @@ use Rattle.node.specs.Kinds.{unary_kind, binary_kind}
 use Rattle.node.specs.Ltl.{Formula}
 use Rattle.node.specs.Result.{Result, Done, Refused, ◌>>=◌, guard}
 use Rattle.node.proofs.ResultLaws.{bind_at, guard-pass, guard-stop, guard_bind}
+use Rattle.node.specs.Returned.{refusal}
+use Rattle.machine.specs.declared.Move.TheVariants.{Next}
 use Rattle.writing.specs.Writing.{Wrote, Nexts}
 use Rattle.writing.specs.Windows as Windows
 use Rattle.writing.specs.StayLaws.{begins_stays, begins-nexts, begins-chain, stays_then}
@@ -31,7 +33,7 @@ use Rattle.machine.specs.Holding.{forms_of}
 use Rattle.machine.specs.Telling.{is_number, is_nodes}
 use Rattle.machine.specs.TableLaws.{laid-last, laid_end, wrote-capped, laid-sized}
 use Rattle.machine.specs.States.{mode_of, written, Topped, Takes, ToppedToWrite, TakesToWrite}
-use Rattle.machine.specs.Moves.{came, wrote, popped}
+use Rattle.machine.specs.Moves.{wrote, popped}
 use Rattle.machine.specs.ComeLaws.{came-number, number_then, came-formula}
 use Rattle.machine.specs.FrameViews.{by_phase}
 use Rattle.machine.specs.TakeLaws.{entry_word_lem, at-word, value-word, other_word, refuses, top-phase, top_as}
@@ -43,7 +45,6 @@ use Rattle.machine.specs.FormulaLaws.{formula-laid, finishes}
 use Rattle.machine.specs.BindLaws.{take-number, take-formula, then_nodes}
 use Rattle.machine.specs.OperandLaws.{operand_as, three-operands}
 use Rattle.machine.specs.declared.Machine.{Machine}
-use Rattle.machine.specs.declared.Move.TheVariants.{Next, Refused as Refuses}
 use Rattle.machine.specs.Entering.{Expands, Waiting}
 use Rattle.machine.specs.EnteringLaws.{works-formula, operand_making}
 use Rattle.temporal_steps.specs.TableLaws.{wrote-chain}
@@ -124,7 +125,7 @@ module _ {s : Source} {mem : List ℕ} {m : Machine} (w : Waiting mem m Phase.wi
       let h = top_as t.top v.5 in
       topped-before t (subst (λ (j : ℕ). size_at s.work (j - 1) < j) (sym (entry_word_lem h)) h.at.waits.1.0)
 
-  pub from-steps : m.mode ≡ is_number → {mem' : List ℕ} {n : Machine} → RenewedBefore s.work mem mem' m Phase.window_to m.value (mode_of Evaluate) n → Takes s mem mem' m (Next n)
+  pub from-steps : m.mode ≡ is_number → {mem' : List ℕ} {n : Machine} → RenewedBefore s.work mem mem' m Phase.window_to m.value (mode_of Evaluate) n → Takes s mem mem' m (Ok (Next n))
   from-steps e q = record {
     turns = λ R x o out t.
         let v = by_phase t.frame Phase.window_from (top-phase t ∙ w.phase) in
@@ -151,7 +152,7 @@ module _ {s : Source} {mem : List ℕ} {m : Machine} (w : Waiting mem m Phase.wi
 -- the second number has come
 module _ {s : Source} {mem : List ℕ} {m : Machine} (w : Waiting mem m Phase.window_to) where
   -- below the first
-  pub to_refuses : m.mode ≡ is_number → {k p a : ℕ} → k ≡ get_or mem (m.frames + entry_field) 0 → p ≡ place_at s.work k → a ≡ get_or mem (m.frames + value_field) 0 → m.value < a → Takes s mem mem m (Refuses 11 p)
+  pub to_refuses : m.mode ≡ is_number → {k p a : ℕ} → k ≡ get_or mem (m.frames + entry_field) 0 → p ≡ place_at s.work k → a ≡ get_or mem (m.frames + value_field) 0 → m.value < a → Takes s mem mem m (Err (refusal 11 p))
   to_refuses e {k} {p} {a} ek ep ea l = record {
     turns = λ R x o out t.
         let v = by_phase t.frame Phase.window_to (top-phase t ∙ w.phase) in
@@ -169,7 +170,7 @@ module _ {s : Source} {mem : List ℕ} {m : Machine} (w : Waiting mem m Phase.wi
   }
 
   pub to_steps : m.mode ≡ is_number → {mem' : List ℕ} {a i : ℕ} {n : Machine} → a ≡ get_or mem (m.frames + value_field) 0 → a ≤ m.value → i ≡ m.nodes
-      → Renewed mem mem' m Phase.windowed i a m.value (mode_of Expand) n → Takes s mem mem' m (Next n)
+      → Renewed mem mem' m Phase.windowed i a m.value (mode_of Expand) n → Takes s mem mem' m (Ok (Next n))
   to_steps e {mem'} {a} ea l en q = record {
     turns = λ R x o out t.
         let v = by_phase t.frame Phase.window_to (top-phase t ∙ w.phase) in
@@ -213,7 +214,7 @@ module _ {s : Source} {mem out : List ℕ} {m : Machine} (w : Waiting mem m Phas
   pub windowed-steps : m.mode ≡ is_nodes → {k code op start a b mid r n : ℕ} {out₁ out' : List ℕ} → k ≡ get_or mem (m.frames + entry_field) 0 → code ≡ prefix_code_at (number_at s.work k) → op ≡ chained code
       → start ≡ get_or mem (m.frames + at_field) 0 → a ≡ get_or mem (m.frames + value_field) 0 → b ≡ get_or mem (m.frames + other_field) 0
       → Windows.Windowed op (unary_kind X) (b - a) out out₁ start m.nodes mid → Nexts (unary_kind X) a out₁ out' mid r
-      → n ≡ min r (suc max_nodes) → TakesToWrite s mem mem out out' m (Next (wrote (popped m) n))
+      → n ≡ min r (suc max_nodes) → TakesToWrite s mem mem out out' m (Ok (Next (wrote (popped m) n)))
   windowed-steps e {k} {code} {op} {start} {a} {b} {mid} {r} {n} {out₁} {out'} ek ei eo es ea eb q y en = record {
     turns = λ R x o t.
         let v = by_phase t.frame Phase.windowed (top-phase t ∙ w.phase) in

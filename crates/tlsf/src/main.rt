@@ -2,7 +2,7 @@
 #![tactic(auto)]
 
 use forms::{AS_EXPANDED, CORE_FORM};
-use node::{Answer, MAX_NODES, MAX_SIGNALS};
+use node::{MAX_NODES, MAX_SIGNALS};
 use std::env::FillError;
 use std::io::{self, BufWriter, Write};
 use std::rt::Env;
@@ -44,10 +44,10 @@ fn convert(to: &mut impl Write, text: &[u8], form: u32) -> io::Result<()> {
     let mut signals = [0u32; MAX_SIGNALS];
     let answer = converter::convert(text, form, &mut work, &mut nodes, &mut signals);
     listing::answer(to, answer)?;
-    let Answer::Accepted(n, _) = answer else {
-        return Ok(());
-    };
-    listing::nodes(to, &nodes, n as usize)
+    match answer {
+        Ok((n, _)) => listing::nodes(to, &nodes, n as usize),
+        Err(_) => Ok(()),
+    }
 }
 
 // Reads the text and converts it. An input that cannot be read is told on standard error, and nothing is printed: it is no empty text.

@@ -1,8 +1,9 @@
 -- Every refusal has a number that fits the packed word.
-use Rattle.std.specs.Prelude.{ℕ, suc, ◌^◌, ◌<◌, Bool, true, false, ◌≡◌, refl, List, [], ◌∷◌, leb, length}
+use Rattle.std.specs.Prelude.{ℕ, suc, ◌^◌, ◌<◌, Bool, true, false, ◌≡◌, refl, List, [], ◌∷◌, leb, length, Ok, Err}
 use Rattle.std.proofs.Common.{sym, subst, arith}
 use Rattle.node.specs.Limits.{max_nodes, field_limit}
 use Rattle.node.specs.Ltl.{Formula}
+use Rattle.node.specs.Returned.{Returned}
 use Rattle.node.specs.Result.{Result, Done, Refused, ◌>>=◌, guard}
 use Rattle.node.proofs.ResultLaws.{guard-done}
 use Rattle.node.specs.Table.{node_fits, scanned, checked}
@@ -119,12 +120,12 @@ diagnosing-fits text bs work room = subst Fits (sym (diagnosing-accepting text b
         (finding-fits text c (guard-done (leb work_bytes work) 17 0 (text_expansion text) e).1 bs)
     go (Refused number place) e = let low = refusal_of e (accepting-numbers text work) in omega arith
 
-told_line : (d : Diagnosis) → Fits (tells d) → Fits (paired (line_of d))
-told_line Diagnosis.Holds h = tt
-told_line (Diagnosis.Preset line) h = tt
-told_line (Diagnosis.Assert line) h = tt
-told_line (Diagnosis.Guarantee line) h = tt
-told_line (Diagnosis.Refused number place) h = h
+told_line : (d : Returned Diagnosis) → Fits (tells d) → Fits (paired (line_of d))
+told_line (Ok Diagnosis.Holds) h = tt
+told_line (Ok (Diagnosis.Preset line)) h = tt
+told_line (Ok (Diagnosis.Assert line)) h = tt
+told_line (Ok (Diagnosis.Guarantee line)) h = tt
+told_line (Err r) h = h
 
-pub line-fits : (text bs : List ℕ) (work room : ℕ) (d : Diagnosis) → tells d ≡ diagnosing text bs work room → Fits (paired (line_of d))
+pub line-fits : (text bs : List ℕ) (work room : ℕ) (d : Returned Diagnosis) → tells d ≡ diagnosing text bs work room → Fits (paired (line_of d))
 line-fits text bs work room d e = told_line d (subst Fits (sym e) (diagnosing-fits text bs work room))

@@ -1,14 +1,13 @@
 -- What an exported function promises: the word packs an answer, and the answer has the promise of the library's own function.
 use Rattle.std.specs.Prelude.{ℕ, List, ◌≡◌}
-use Rattle.node.specs.Answer.{says}
+use Rattle.node.specs.Answer.{Answer, says}
+use Rattle.node.specs.Returned.{Returned}
 use Rattle.node.specs.Result.{Result, Done, Refused, Counts}
-use Rattle.node.specs.declared.Answer.{Answer}
 use Rattle.evaluator.specs.Promise.{Evaluates}
 use Rattle.lookahead.specs.Reaching.{looks, valued}
 use Rattle.lookahead.specs.Promise.{Reaches}
 use Rattle.lookahead.specs.declared.Reach.{Reach}
 use Rattle.basic.specs.Answer.{tells}
-use Rattle.basic.specs.declared.Written.{Written}
 use Rattle.diagnosis.specs.Promise.{valued as line_of}
 use Rattle.diagnosis.specs.declared.Diagnosis.{Diagnosis}
 use Rattle.tlsf_c.specs.Packed.{packed}
@@ -24,7 +23,7 @@ EvaluatesTo nodes signals recording rows rows' answer = Evaluates answer nodes s
 
 -- the promise of a reach, of the answer that has its values
 pub record ReachesTo (nodes : List ℕ) (answer : Answer) : Type 0 where
-  pub reach : Reach
+  pub reach : Returned Reach
   pub values : says answer ≡ valued (looks reach)
   pub promise : Reaches reach nodes
 
@@ -34,8 +33,8 @@ counted (Done n) = Done (record { nodes = n; signals = 0 })
 counted (Refused number place) = Refused number place
 
 -- the writer's, which tells bytes
-pub record PacksBytes (word : ℕ) (Promise : Written → Type 0) : Type 0 where
-  pub answer : Written
+pub record PacksBytes (word : ℕ) (Promise : Returned ℕ → Type 0) : Type 0 where
+  pub answer : Returned ℕ
   pub packs : word ≡ packed (counted (tells answer))
   pub promise : Promise answer
 
@@ -45,7 +44,7 @@ paired (Done p) = Done (record { nodes = p.0; signals = p.1 })
 paired (Refused number place) = Refused number place
 
 -- the diagnosis', which tells a line
-pub record PacksLine (word : ℕ) (Promise : Diagnosis → Type 0) : Type 0 where
-  pub answer : Diagnosis
+pub record PacksLine (word : ℕ) (Promise : Returned Diagnosis → Type 0) : Type 0 where
+  pub answer : Returned Diagnosis
   pub packs : word ≡ packed (paired (line_of answer))
   pub promise : Promise answer

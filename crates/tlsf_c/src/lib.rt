@@ -13,10 +13,8 @@ ghost use Rattle.writer.specs.Promise.{Writes};
 ghost use Rattle.diagnosis.specs.Promise.{valued, Diagnoses};
 ghost use Rattle.tlsf_c.specs.Promise.{Packs, EvaluatesTo, ReachesTo, counted as counted', PacksBytes, paired, PacksLine};
 
-use basic::Written;
-use basics::u32_u64::wide;
 use diagnosis::Diagnosis;
-use node::Answer;
+use node::{Answer, Refusal};
 
 const HIGH: u64 = 4294967296;
 
@@ -28,8 +26,8 @@ fn pack(answer: Answer) -> u64
     ensures { result ≡ packed (says answer) }
 {
     match answer {
-        Answer::Accepted(nodes, signals) => wide(nodes) * HIGH + wide(signals),
-        Answer::Refused(number, place) => REFUSED + (wide(number) * HIGH + wide(place)),
+        Ok((nodes, signals)) => u64::from(nodes) * HIGH + u64::from(signals),
+        Err(Refusal { number, place }) => REFUSED + (u64::from(number) * HIGH + u64::from(place)),
     }
 }
 
@@ -87,17 +85,14 @@ pub extern "C" fn tlsf_reach(nodes: &[u32]) -> u64
     ensures { Packs result (ReachesTo nodes.now) }
 {
     let reach = lookahead::reach_of(nodes);
-    pack(reach.answer())
+    pack(lookahead::answer(reach))
 }
 
 // The writer's answer with its bytes in the place of nodes.
-fn counted(written: Written) -> Answer
+fn counted(written: Result<u32, Refusal>) -> Answer
     ensures { says result ≡ counted' (tells written) }
 {
-    match written {
-        Written::Bytes(bytes) => Answer::Accepted(bytes, 0),
-        Written::Refused(number, place) => Answer::Refused(number, place),
-    }
+    Ok((written?, 0))
 }
 
 // writer::write_basic: accepted = bytes * 2^32
@@ -109,15 +104,14 @@ pub extern "C" fn tlsf_write_basic(text: &[u8], work: &mut [u8], out: &mut [u8])
 }
 
 // A diagnosis with its section and line in the place of nodes and signals.
-fn named(found: Diagnosis) -> Answer
+fn named(found: Result<Diagnosis, Refusal>) -> Answer
     ensures { says result ≡ paired (valued found) }
 {
-    match found {
-        Diagnosis::Holds => Answer::Accepted(0, 0),
-        Diagnosis::Preset(line) => Answer::Accepted(1, line),
-        Diagnosis::Assert(line) => Answer::Accepted(2, line),
-        Diagnosis::Guarantee(line) => Answer::Accepted(3, line),
-        Diagnosis::Refused(number, place) => Answer::Refused(number, place),
+    match found? {
+        Diagnosis::Holds => Ok((0, 0)),
+        Diagnosis::Preset(line) => Ok((1, line)),
+        Diagnosis::Assert(line) => Ok((2, line)),
+        Diagnosis::Guarantee(line) => Ok((3, line)),
     }
 }
 

@@ -1,15 +1,18 @@
 -- Places as the code has them.
-use Rattle.std.specs.Prelude.{ℕ}
+use Rattle.std.specs.Prelude as std
+use Rattle.std.specs.Prelude.{ℕ, Some, None}
 use Rattle.std.proofs.Math.Option.{Option, none, some}
-use Rattle.traversal.specs.declared.Place.{Place}
-use Rattle.traversal.specs.declared.Place.TheVariants.{At, Nowhere}
+
+-- a place in the text, or none, as the code's functions answer it
+abbrev pub Place : Type 0
+Place = std.Option ℕ
 
 -- the code's answer for a place
 unfoldable pub placed : Option ℕ → Place
-placed none = Nowhere
-placed (some p) = At p
+placed none = None
+placed (some p) = Some p
 
 -- the place of an answer
 unfoldable pub place_in : Place → Option ℕ
-place_in Nowhere = none
-place_in (At p) = some p
+place_in None = none
+place_in (Some p) = some p

@@ -2,7 +2,7 @@
 // The functions ask for an index within the lent buffers and a kind of six bits: every pass goes over the entries, whose words hold no others.
 #![tactic(auto)]
 
-ghost use Rattle.std.specs.Prelude.{◌≡◌, ◌-◌, ◌≤◌, ◌<◌, length, get_or};
+ghost use Rattle.std.specs.Prelude.{◌≡◌, ◌≤◌, ◌<◌, length, get_or};
 ghost use Rattle.std.proofs.Math.Seq.{slice};
 ghost use Rattle.language.specs.Limits.{work_bytes, max_tokens};
 ghost use Rattle.language.specs.Places.{first};
@@ -24,25 +24,22 @@ pub struct Cell {
     pub size: u32,
 }
 
-// A place in the text, or none.
+// How far a pass with a stack has come: the kind of the entry before, how many operands are on the stack, and the first place found.
 #[derive(Clone, Copy)]
-pub enum Place {
-    At(u32),
-    Nowhere,
+pub struct Progress {
+    pub before: u32,
+    pub top: usize,
+    pub found: Option<u32>,
 }
 
-impl Place {
-    // The first of two places.
-    pub fn first(self, other: Place) -> Place
-        ensures { result ≡ placed (first (place_in self) (place_in other)) }
-    {
-        let Place::At(p) = self else {
-            return other;
-        };
-        let Place::At(q) = other else {
-            return self;
-        };
-        if p < q { self } else { other }
+// The first of two places.
+pub fn first(p: Option<u32>, q: Option<u32>) -> Option<u32>
+    ensures { result ≡ placed (first (place_in p) (place_in q)) }
+{
+    match (p, q) {
+        (Some(a), Some(b)) => Some(a.min(b)),
+        (None, _) => q,
+        (_, None) => p,
     }
 }
 
@@ -116,13 +113,6 @@ pub fn operand_count(before: u32, c: Cell) -> usize
     arity(kind)
 }
 
-// What is left of n, at least 0.
-pub fn less(n: usize, m: usize) -> usize
-    ensures { result ≡ n - m }
-{
-    if m < n { n - m } else { 0 }
-}
-
 // Where an entry starts: with its first operand, or at its token's place; a big operator's name has its kind there.
 pub fn start_of(kind: u32, place: u32, start: u32) -> u32
     requires { kind < Kind.limit }
@@ -147,7 +137,7 @@ pub fn start_of(kind: u32, place: u32, start: u32) -> u32
     }
 }
 
-// The first number of a part of the stack, 0 if the part is empty.
+// The first number of a part of the stack, 0 if the part is empty. Two indices and no subslice: what `slice` of the definition takes.
 pub fn first_of(numbers: &[u32], from: usize, to: usize) -> u32
     requires { to ≤ length numbers.now }
     ensures { result ≡ first_of (slice from to numbers.now) }

@@ -1,5 +1,5 @@
 -- The ways through the pass's definitions, by what the code tests.
-use Rattle.std.specs.Prelude.{ℕ, suc, ◌+◌, ◌-◌, ◌≤◌, ◌<◌, List, Bool, true, false, ◌≡◌, refl, ltb, length, get_or, take, drop}
+use Rattle.std.specs.Prelude.{ℕ, suc, ◌+◌, ◌-◌, ◌≤◌, ◌<◌, List, Bool, true, false, ◌≡◌, refl, ltb, length, get_or, take, drop, Some, None}
 use Rattle.std.proofs.Math.Option.{Option, none}
 use Rattle.std.proofs.Math.Path.{sym, ap}
 use Rattle.std.proofs.Common.{ap₂, ◌∙◌, drop-drop, add-one, arith, eq-eqb, ne_eqb, lt-ltb, le-ltb}
@@ -12,9 +12,7 @@ use Rattle.language.specs.Limits.{max_names}
 use Rattle.language.specs.Types.{ANumber, ABus, AValue, type_code}
 use Rattle.language.proofs.Laws.Basics.NoPlace.{first_none, first_assoc}
 use Rattle.entries.specs.Kinds as Kind
-use Rattle.traversal.specs.declared.Place.{Place}
-use Rattle.traversal.specs.declared.Place.TheVariants.{At, Nowhere}
-use Rattle.traversal.specs.Places.{placed, place_in}
+use Rattle.traversal.specs.Places.{Place, placed, place_in}
 use Rattle.traversal.specs.PlaceLaws.{place-placed, placed-place}
 use Rattle.traversal.specs.StackLaws.{no_part}
 use Rattle.traversal.specs.Starts.{first_of}
@@ -23,12 +21,12 @@ use Rattle.types.specs.Kinds.{giving, last_takes, other_takes, gives_of, fits, t
 use Rattle.types.specs.Pass.{wrong_at}
 
 -- places
-pub nowhere : (b : Bool) (p : ℕ) → b ≡ true → Nowhere ≡ placed (unless b p)
+pub nowhere : (b : Bool) (p : ℕ) → b ≡ true → None ≡ placed (unless b p)
 unfolding placed
 nowhere true p e = refl
 nowhere false p e = ap (λ b. placed (unless b p)) (sym e)
 
-pub here : (b : Bool) (p : ℕ) → b ≡ false → At p ≡ placed (unless b p)
+pub here : (b : Bool) (p : ℕ) → b ≡ false → Some p ≡ placed (unless b p)
 unfolding placed
 here true p e = ap (λ b. placed (unless b p)) (sym e)
 here false p e = refl
@@ -102,7 +100,7 @@ module _ (a b s t : ℕ) where
   unfolding sides_of
   value_side d h e = ap placed (sym (leave (eqb a (type_code ANumber)) _ _ (ne_eqb _ _ d) ∙ leave (eqb a (type_code ABus)) _ _ (ne_eqb _ _ h) ∙ pick (eqb a (type_code AValue)) _ _ (eq-eqb _ _ e)))
 
-  pub no_side : (a ≡ type_code ANumber → ⊥) → (a ≡ type_code ABus → ⊥) → (a ≡ type_code AValue → ⊥) → At s ≡ placed (sides_of a b s t)
+  pub no_side : (a ≡ type_code ANumber → ⊥) → (a ≡ type_code ABus → ⊥) → (a ≡ type_code AValue → ⊥) → Some s ≡ placed (sides_of a b s t)
   unfolding sides_of placed
   no_side d h e = ap placed (sym (leave (eqb a (type_code ANumber)) _ _ (ne_eqb _ _ d) ∙ leave (eqb a (type_code ABus)) _ _ (ne_eqb _ _ h) ∙ leave (eqb a (type_code AValue)) _ _ (ne_eqb _ _ e)))
 
@@ -112,7 +110,7 @@ module _ (k name place : ℕ) where
   unfolding indexed
   index-bus e = ap placed (sym (pick (eqb (get_or other_takes k 0) takes_index) _ _ (eq-eqb _ _ e)))
 
-  pub no_index : (get_or other_takes k 0 ≡ takes_index → ⊥) → Nowhere ≡ placed (indexed k name place)
+  pub no_index : (get_or other_takes k 0 ≡ takes_index → ⊥) → None ≡ placed (indexed k name place)
   unfolding indexed placed
   no_index e = ap placed (sym (leave (eqb (get_or other_takes k 0) takes_index) _ _ (ne_eqb _ _ e)))
 

@@ -3,7 +3,7 @@ use Rattle.std.specs.Prelude.{ℕ, ◌+◌, ◌≤◌, List, ◌≡◌, length, 
 use Rattle.language.specs.Limits.{work_bytes, max_tokens, max_names}
 use Rattle.traversal.specs.declared.Cell.{Cell}
 use Rattle.traversal.specs.Places.{placed}
-use Rattle.types.specs.declared.Progress.{Progress}
+use Rattle.traversal.specs.declared.Progress.{Progress}
 use Rattle.types.specs.Pass.{State, types_of, starts_of, step}
 
 pub record Agrees (s : State) (p : Progress) (ks ss ts : List ℕ) : Type 0 where

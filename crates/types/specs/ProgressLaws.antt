@@ -10,13 +10,12 @@ use Rattle.language.specs.Places.{first}
 use Rattle.language.proofs.Laws.Basics.Tests.{split, pick, leave}
 use Rattle.entries.specs.Kinds as Kind
 use Rattle.traversal.specs.declared.Cell.{Cell}
-use Rattle.traversal.specs.declared.Place.{Place}
 use Rattle.traversal.specs.Arity.{operands, first_line}
-use Rattle.traversal.specs.Places.{placed, place_in}
+use Rattle.traversal.specs.Places.{Place, placed, place_in}
 use Rattle.traversal.specs.PlaceLaws.{place-placed}
 use Rattle.traversal.specs.StackLaws.{stack_part, stack-below, stack_push}
 use Rattle.traversal.specs.Starts.{start_of, first_of}
-use Rattle.types.specs.declared.Progress.{Progress}
+use Rattle.traversal.specs.declared.Progress.{Progress}
 use Rattle.types.specs.Kinds.{gives_of, indexed, place_of, reference_of, type_at}
 use Rattle.types.specs.Pass.{Operand, State, types_of, starts_of, node, wrong_at, fault, table_of, stepped, step}
 use Rattle.types.specs.Progress.{Agrees, Sized, Passes}

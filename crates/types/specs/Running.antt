@@ -4,10 +4,9 @@ use Rattle.std.proofs.Math.Option.{none}
 use Rattle.language.specs.Tree.{Spec}
 use Rattle.language.specs.Types.{wrong_type as firstWrong}
 use Rattle.names.specs.Resolved.{Stored, Resolved}
-use Rattle.traversal.specs.declared.Place.{Place}
-use Rattle.traversal.specs.Places.{placed}
+use Rattle.traversal.specs.Places.{Place, placed}
 use Rattle.traversal.specs.Passed.{passed}
-use Rattle.types.specs.declared.Progress.{Progress}
+use Rattle.traversal.specs.declared.Progress.{Progress}
 use Rattle.types.specs.Pass.{State, step, state}
 use Rattle.types.specs.Cells.{named_cell}
 use Rattle.types.specs.Declaring.{declared_table}

@@ -7,7 +7,7 @@ use Rattle.language.specs.Tokens.{tokens}
 use Rattle.names.specs.Resolved.{declared_names}
 use Rattle.traversal.specs.Places.{placed}
 use Rattle.traversal.specs.PassedLaws.{passed_none, passed-more}
-use Rattle.types.specs.declared.Progress.{Progress}
+use Rattle.traversal.specs.declared.Progress.{Progress}
 use Rattle.types.specs.Pass.{State, step, state}
 use Rattle.types.specs.Cells.{named_cell}
 use Rattle.types.specs.TypeLaws.{finds-wrong}

@@ -9,9 +9,9 @@ ghost use Rattle.types.specs.Kinds.{last_takes, other_takes, gives_of, fits, tak
 ghost use Rattle.types.specs.Pass.{wrong_at};
 
 use entries::kinds;
-use traversal::{Place, first_of};
+use traversal::{first, first_of};
 
-// Types as numbers (specs/Codes).
+// Types as numbers and no enum: the definition's tables name them so, what is taken stands in one range with them (specs/Codes), and both stacks hold words.
 pub const NUMBER: u32 = 0;
 
 const SET: u32 = 1;
@@ -42,6 +42,7 @@ const INDEX: u32 = 11;
 // What an entry declares that declares no name, or a definition's.
 pub const UNDECLARED: u32 = 8;
 
+// A list of constants of its own, like `fields` of crate operators: no twin.
 // What the constants stand for.
 pub fn codes() -> [u32; 13]
     ensures { result ≡ codes' }
@@ -100,22 +101,22 @@ pub fn gives_of(kind: u32, name: u32, operand: u32) -> u32
 }
 
 // An operand that does not fit what is taken.
-fn misfit(takes: u32, given: u32, start: u32) -> Place
+fn misfit(takes: u32, given: u32, start: u32) -> Option<u32>
     ensures { result ≡ placed (unless (fits takes given) start) }
 {
     if takes == ANY {
-        return Place::Nowhere;
+        return None;
     }
     if takes == DEFINABLE {
         if given < UNDEFINABLE {
-            return Place::Nowhere;
+            return None;
         }
-        return Place::At(start);
+        return Some(start);
     }
     if takes == given {
-        return Place::Nowhere;
+        return None;
     }
-    Place::At(start)
+    Some(start)
 }
 
 // The type of the last operand, by an entry's kind.
@@ -226,24 +227,29 @@ fn takes_last(kind: u32, n: usize) -> u32
 }
 
 // The first of the operands that does not fit.
-fn misfits(other: u32, last: u32, types: &[u32], starts: &[u32], from: usize, to: usize) -> Place
+fn misfits(
+    other: u32,
+    last: u32,
+    types: &[u32],
+    starts: &[u32],
+    from: usize,
+    to: usize,
+) -> Option<u32>
     requires { (to ≤ length types.now) × (to ≤ length starts.now) }
     ensures { result ≡ placed (misfits' other last (slice from to types.now) (slice from to starts.now)) }
 {
-    let mut found = Place::Nowhere;
-    let mut i = from;
-    while i < to {
+    let mut found = None;
+    for i in from..to {
         if i + 1 == to {
-            return found.first(misfit(last, types[i], starts[i]));
+            return first(found, misfit(last, types[i], starts[i]));
         }
-        found = found.first(misfit(other, types[i], starts[i]));
-        i += 1;
+        found = first(found, misfit(other, types[i], starts[i]));
     }
     found
 }
 
 // A number and a number, a bus and an identifier of an enumeration, in either order.
-fn sides_of(left: u32, right: u32, start: u32, other: u32) -> Place
+fn sides_of(left: u32, right: u32, start: u32, other: u32) -> Option<u32>
     ensures { result ≡ placed (sides_of left right start other) }
 {
     if left == NUMBER {
@@ -255,21 +261,21 @@ fn sides_of(left: u32, right: u32, start: u32, other: u32) -> Place
     if left == VALUE {
         return misfit(BUS, right, other);
     }
-    Place::At(start)
+    Some(start)
 }
 
-pub fn indexed(kind: u32, name: u32, place: u32) -> Place
+pub fn indexed(kind: u32, name: u32, place: u32) -> Option<u32>
     requires { kind < Kind.limit }
     ensures { result ≡ placed (indexed' kind name place) }
 {
     if others_take(kind) == INDEX {
         return misfit(BUS, name, place);
     }
-    Place::Nowhere
+    None
 }
 
 // The first operand of a wrong type, of those from `from` up to `to`.
-pub fn wrong_at(kind: u32, types: &[u32], starts: &[u32], from: usize, to: usize) -> Place
+pub fn wrong_at(kind: u32, types: &[u32], starts: &[u32], from: usize, to: usize) -> Option<u32>
     requires { (kind < Kind.limit) × (to ≤ length types.now) × (to ≤ length starts.now) × (from ≤ to) }
     ensures { result ≡ placed (wrong_at kind (slice from to types.now) (slice from to starts.now)) }
 {

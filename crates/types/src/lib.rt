@@ -17,20 +17,12 @@ use crate::table::{declare_all, define, named_cell, type_at};
 use entries::kinds::LINES;
 use language::limits;
 use lexer::fields::OFFSETS;
-use traversal::{Place, first_of, less, operand_count, start_of};
+use traversal::{Progress, first, first_of, operand_count, start_of};
 
 fn place_of(word: u32) -> u32
     ensures { result ≡ place_of word }
 {
     word % OFFSETS
-}
-
-// The kind of the entry before, how many operands are on the stack, and the first place found.
-#[derive(Clone, Copy)]
-pub struct Progress {
-    pub before: u32,
-    pub top: usize,
-    pub found: Place,
 }
 
 // One entry.
@@ -51,15 +43,14 @@ fn pass(
     let kind = c.kind;
     let token = c.token;
     let top = p.top;
-    let below = less(top, operand_count(p.before, c));
+    let below = top.saturating_sub(operand_count(p.before, c));
     let name = type_at(table, token);
     let place = place_of(token);
     let operand = first_of(types, below, top);
     let start = first_of(starts, below, top);
     let unbound = indexed(kind, name, place);
-    let wrong = unbound.first(wrong_at(kind, types, starts, below, top));
-    let before = p.found;
-    let found = before.first(wrong);
+    let wrong = first(unbound, wrong_at(kind, types, starts, below, top));
+    let found = first(p.found, wrong);
     define(table, kind, token, operand);
     if kind < LINES {
         types[below] = gives_of(kind, name, operand);
@@ -67,18 +58,18 @@ fn pass(
         return Progress {
             before: kind,
             top: below + 1,
-            found: found,
+            found,
         };
     }
     Progress {
         before: kind,
         top: below,
-        found: found,
+        found,
     }
 }
 
 // The first place of refusal 9, if there is one; `refs` has the reference of each entry's name.
-pub fn wrong_type(work: &[u8], refs: &[u16], entries: usize) -> Place
+pub fn wrong_type(work: &[u8], refs: &[u16], entries: usize) -> Option<u32>
     requires { (work_bytes ≤ length work.now) × (entries ≤ max_tokens) × (max_tokens ≤ length refs.now) }
     ensures { WrongType refs.now work.now entries result }
 {
@@ -89,12 +80,10 @@ pub fn wrong_type(work: &[u8], refs: &[u16], entries: usize) -> Place
     let mut p = Progress {
         before: 0,
         top: 0,
-        found: Place::Nowhere,
+        found: None,
     };
-    let mut i = 0;
-    while i < entries {
+    for i in 0..entries {
         p = pass(work, refs, i, p, &mut types, &mut starts, &mut table);
-        i += 1;
     }
     p.found
 }

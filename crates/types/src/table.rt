@@ -9,7 +9,6 @@ ghost use Rattle.types.specs.Pass.{table_of};
 ghost use Rattle.types.specs.Declaring.{declaring, declare as declare'};
 
 use crate::codes::{BUS, ENUMERATION, FORMULA, NUMBER, UNDECLARED, VALUE};
-use basics::u16_u32::wide;
 use entries::kinds;
 use language::limits;
 use lexer::fields::{LENGTHS, OFFSETS};
@@ -47,7 +46,7 @@ pub fn named_cell(work: &[u8], refs: &[u16], i: usize) -> Cell
     ensures { (result ≡ named_cell refs.now work.now i) × (result.kind < Kind.limit) }
 {
     let c = cell_at(work, i);
-    let reference = wide(refs[i]);
+    let reference = u32::from(refs[i]);
     Cell {
         kind: c.kind,
         token: reference * OFFSETS + c.token / LENGTHS % OFFSETS,
@@ -101,9 +100,7 @@ pub fn declare_all(work: &[u8], refs: &[u16], entries: usize, table: &mut [u32])
     requires { (work_bytes ≤ length work.now) × (entries ≤ max_tokens) × (length table.old ≡ max_names) × (max_tokens ≤ length refs.now) }
     ensures { table.new ≡ passed declare' (named_cell refs.now work.now) table.old entries }
 {
-    let mut i = 0;
-    while i < entries {
+    for i in 0..entries {
         declare(named_cell(work, refs, i), table);
-        i += 1;
     }
 }

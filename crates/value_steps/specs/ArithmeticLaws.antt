@@ -1,8 +1,10 @@
 -- An operator between two numbers: its left operand, its right operand.
-use Rattle.std.specs.Prelude.{ℕ, ◌+◌, List, ◌≡◌, refl, get_or}
+use Rattle.std.specs.Prelude.{ℕ, ◌+◌, List, ◌≡◌, refl, get_or, Ok}
 use Rattle.std.proofs.Common.{sym, ap, ap₂, ◌∙◌, subst, arith}
 use Rattle.node.specs.Result.{Result, Done, ◌>>=◌}
 use Rattle.node.proofs.ResultLaws.{bind_again}
+use Rattle.node.specs.Returned.{Returned}
+use Rattle.machine.specs.declared.Move.TheVariants.{Next}
 use Rattle.language.specs.Operators.{Arithmetic, Calculates}
 use Rattle.language.specs.Tree.{Expr}
 use Rattle.language.specs.Values.{Value, Number, number, calculate, value}
@@ -10,7 +12,6 @@ use Rattle.language.proofs.Laws.Values.ValueLaws.{calculate_sane}
 use Rattle.entries.specs.Kinds as Kind
 use Rattle.sets.specs.Answers.{says}
 use Rattle.sets.specs.Operators.{arithmetic}
-use Rattle.sets.specs.declared.Worked.{Worked}
 use Rattle.operators.specs.Tables.{infix_code_at}
 use Rattle.operands.specs.Entries.{kind_at, place_at, number_at}
 use Rattle.operands.specs.KindLaws.{calculation_class}
@@ -35,7 +36,6 @@ use Rattle.machine.specs.NumberLaws.{yields_number}
 use Rattle.machine.specs.BindLaws.{take-number, then_worth, number-last}
 use Rattle.machine.specs.OperandLaws.{operand-view}
 use Rattle.machine.specs.declared.Machine.{Machine}
-use Rattle.machine.specs.declared.Move.TheVariants.{Next}
 use Rattle.machine.specs.Entering.{Evaluates, Waiting}
 use Rattle.machine.specs.EnteringLaws.{works-value}
 
@@ -75,7 +75,7 @@ calculation_starts {s} {mem} {m} k =
 
 -- the left operand has come
 module _ {s : Source} {mem : List ℕ} {m : Machine} (w : Waiting mem m Phase.left) where
-  pub left-steps : m.mode ≡ is_number → {mem' : List ℕ} {n : Machine} → Renewed mem mem' m Phase.right 0 m.value 0 (mode_of Evaluate) n → Takes s mem mem' m (Next n)
+  pub left-steps : m.mode ≡ is_number → {mem' : List ℕ} {n : Machine} → Renewed mem mem' m Phase.right 0 m.value 0 (mode_of Evaluate) n → Takes s mem mem' m (Ok (Next n))
   left-steps e q = record {
     turns = λ R x o out t.
         let v = by_phase t.frame Phase.left (top-phase t ∙ w.phase) in
@@ -100,7 +100,7 @@ module _ {s : Source} {mem : List ℕ} {m : Machine} (w : Waiting mem m Phase.le
 
 -- the right operand has come
 module _ {s : Source} {mem : List ℕ} {m : Machine} (w : Waiting mem m Phase.right) where
-  pub right-steps : m.mode ≡ is_number → {k i p a : ℕ} (r : Worked) → k ≡ get_or mem (m.frames + entry_field) 0 → i ≡ infix_code_at (number_at s.work k) → p ≡ place_at s.work k → a ≡ get_or mem (m.frames + value_field) 0
+  pub right-steps : m.mode ≡ is_number → {k i p a : ℕ} (r : Returned ℕ) → k ≡ get_or mem (m.frames + entry_field) 0 → i ≡ infix_code_at (number_at s.work k) → p ≡ place_at s.work k → a ≡ get_or mem (m.frames + value_field) 0
       → says r ≡ calculate p (arithmetic i) a m.value → Takes s mem mem m (numbered (popped m) r)
   right-steps e {k} {i} {p} {a} r ek ei ep ea g = record {
     turns = λ R x o out t.

@@ -1,9 +1,10 @@
 -- An operator between two sets: its left operand.
-use Rattle.std.specs.Prelude.{ℕ, ◌+◌, ◌-◌, ◌≤◌, ◌<◌, ◌^◌, List, ◌≡◌, refl, length, get_or}
+use Rattle.std.specs.Prelude.{ℕ, ◌+◌, ◌-◌, ◌≤◌, ◌<◌, ◌^◌, List, ◌≡◌, refl, length, get_or, Ok}
 use Rattle.std.proofs.lemmas.Bool.{false≢true}
 use Rattle.std.proofs.Common.{sym, ap, ◌∙◌, subst, arith, add-zero}
 use Rattle.node.specs.Result.{Result, Done, ◌>>=◌}
 use Rattle.node.proofs.ResultLaws.{bind_at}
+use Rattle.machine.specs.declared.Move.TheVariants.{Next}
 use Rattle.language.specs.Limits.{max_elements}
 use Rattle.language.specs.Operators.{Combination, Combines}
 use Rattle.language.specs.Tree.{Expr}
@@ -33,7 +34,6 @@ use Rattle.machine.specs.ContractLaws.{takes-next}
 use Rattle.machine.specs.BindLaws.{take-set, then_worth, set_last}
 use Rattle.machine.specs.OperandLaws.{operand-view}
 use Rattle.machine.specs.declared.Machine.{Machine}
-use Rattle.machine.specs.declared.Move.TheVariants.{Next}
 use Rattle.machine.specs.Entering.{Evaluates, Waiting}
 use Rattle.machine.specs.EnteringLaws.{works-value}
 use Rattle.machine.specs.StartLaws.{StartsTwo}
@@ -102,7 +102,7 @@ set-numbered {mem = mem} {m} t e =
 -- the left operand has come
 module _ {s : Source} {mem : List ℕ} {m : Machine} (w : Waiting mem m Phase.left_set) where
   pub left-steps : m.mode ≡ is_set → {mem' : List ℕ} {k top : ℕ} → k ≡ get_or mem (m.frames + entry_field) 0 → top ≡ above m
-      → Framed mem mem' m.frames (record { phase = Phase.right_set; entry = k; base = m.top; at = m.from; count = m.value; value = 0; other = 0 }) → Takes s mem mem' m (Next (onward m (k - 1) top))
+      → Framed mem mem' m.frames (record { phase = Phase.right_set; entry = k; base = m.top; at = m.from; count = m.value; value = 0; other = 0 }) → Takes s mem mem' m (Ok (Next (onward m (k - 1) top)))
   left-steps e {mem'} {k} ek et f = takes-next (ap (onward m (k - 1)) et) (record {
     turns = λ R x o out t.
         let v = by_phase t.frame Phase.left_set (top-phase t ∙ w.phase) in

@@ -1,15 +1,16 @@
 -- An operator between two sets: its right operand, and the set that is made of both.
-use Rattle.std.specs.Prelude.{ℕ, suc, ◌+◌, ◌≤◌, ◌<◌, List, ◌++◌, ◌≡◌, refl, length, get_or, take, drop}
+use Rattle.std.specs.Prelude.{ℕ, suc, ◌+◌, ◌≤◌, ◌<◌, List, ◌++◌, ◌≡◌, refl, length, get_or, take, drop, Ok, Err}
 use Rattle.std.proofs.Common.{sym, ap, ap₂, ◌∙◌, subst, arith, add-zero, length-drop, length-take-le}
 use Rattle.node.specs.Result.{Result, ◌>>=◌}
 use Rattle.node.proofs.ResultLaws.{bind_at, bind_refused}
+use Rattle.node.specs.Returned.{refusal}
+use Rattle.machine.specs.declared.Move.TheVariants.{Next}
 use Rattle.language.specs.Limits.{max_elements}
 use Rattle.language.specs.Operators.{Combination, Combines}
 use Rattle.language.specs.Sets.{combine}
 use Rattle.language.specs.Values.{Set, limited}
 use Rattle.language.proofs.Laws.Basics.Results.{value_of}
 use Rattle.sets.specs.Operators.{combination}
-use Rattle.sets.specs.declared.Worked.{Worked}
 use Rattle.operators.specs.Tables.{infix_code_at}
 use Rattle.operands.specs.Entries.{place_at, number_at}
 use Rattle.operands.specs.Working.{Source}
@@ -36,7 +37,6 @@ use Rattle.machine.specs.ComeLaws.{IsSet, came-set}
 use Rattle.machine.specs.FrameViews.{by_phase}
 use Rattle.machine.specs.TakeLaws.{words, entry_word_lem, base_word, at-word, count_word, room-under, refuses-late, pops, top-phase, top_as}
 use Rattle.machine.specs.declared.Machine.{Machine}
-use Rattle.machine.specs.declared.Move.TheVariants.{Next, Refused as Refuses}
 use Rattle.machine.specs.Entering.{Waiting}
 use Rattle.value_steps.specs.PlacedLaws.{elements_are, placed}
 use Rattle.value_steps.specs.Moves.{made-set}
@@ -191,7 +191,7 @@ module _ {s : Source} {mem : List ℕ} {m : Machine} (w : Waiting mem m Phase.ri
         comes-to : {r : Result (List ℕ)} → r ≡ answer mem m la lc i p → apply (RightSet pl op l) h.came ≡ (r >>= λ y. worth (Set y))
         comes-to g = joined w e h (q.left_at ∙ at-word h) (q.left-count ∙ count_word h) (sym as-defined ∙ sym g)
 
-      pub right-refuses : {mem₁ : List ℕ} {number place : ℕ} → SetAt mem mem₁ to (Worked.Refused number place) (answer mem m la lc i p) → Takes s mem mem₁ m (Refuses number place)
+      pub right-refuses : {mem₁ : List ℕ} {number place : ℕ} → SetAt mem mem₁ to (Err (refusal number place)) (answer mem m la lc i p) → Takes s mem mem₁ m (Err (refusal number place))
       right-refuses g = record {
         turns = λ R x o out t.
             let v = by_phase t.frame Phase.right_set (top-phase t ∙ w.phase) in
@@ -199,7 +199,7 @@ module _ {s : Source} {mem : List ℕ} {m : Machine} (w : Waiting mem m Phase.ri
             refuses-late h g.kept.len (comes-to h g.set.says ∙ bind_refused _ _ _ _ refl);
       }
 
-      pub right-makes : {mem₁ mem₂ : List ℕ} {n : ℕ} → SetAt mem mem₁ to (Worked.Value n) (answer mem m la lc i p) → Copied mem₁ to mem₁ mem₂ base n → Takes s mem mem₂ m (Next (made-set m n base))
+      pub right-makes : {mem₁ mem₂ : List ℕ} {n : ℕ} → SetAt mem mem₁ to (Ok n) (answer mem m la lc i p) → Copied mem₁ to mem₁ mem₂ base n → Takes s mem mem₂ m (Ok (Next (made-set m n base)))
       right-makes {mem₁} {mem₂} {n} g c = record {
         turns = λ R x o out t.
             let v = by_phase t.frame Phase.right_set (top-phase t ∙ w.phase) in

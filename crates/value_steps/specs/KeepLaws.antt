@@ -1,8 +1,9 @@
 -- What a definition's body has come to is noted in place of the body: a number; or a set, which is copied behind the kept ones if there is room for it.
-use Rattle.std.specs.Prelude.{ℕ, ◌+◌, ◌≤◌, ◌<◌, List, ◌≡◌, refl, length, get_or, set}
+use Rattle.std.specs.Prelude.{ℕ, ◌+◌, ◌≤◌, ◌<◌, List, ◌≡◌, refl, length, get_or, set, Ok}
 use Rattle.std.proofs.Common.{sym, ap, ◌∙◌, subst, arith}
 use Rattle.node.specs.Result.{Result, Done, Refused, ◌>>=◌}
 use Rattle.node.proofs.ResultLaws.{not_done}
+use Rattle.machine.specs.declared.Move.TheVariants.{Next}
 use Rattle.language.specs.Limits.{max_names}
 use Rattle.language.specs.Tokens.{Token}
 use Rattle.language.specs.Tree.{Expr}
@@ -30,7 +31,6 @@ use Rattle.machine.specs.FrameViews.{by_phase}
 use Rattle.machine.specs.Moves.{came}
 use Rattle.machine.specs.TakeLaws.{top-phase, top_as}
 use Rattle.machine.specs.declared.Machine.{Machine}
-use Rattle.machine.specs.declared.Move.TheVariants.{Next}
 use Rattle.machine.specs.Entering.{Waiting}
 use Rattle.machine.specs.FactLaws.{fact_of}
 use Rattle.value_steps.specs.ReleaseLaws.{below, Releasing, declared, defined, releases, lets_go}
@@ -57,7 +57,7 @@ module _ {s : Source} {R : Realm s} {mem out : List ℕ} {m : Machine} {x : Resu
     -- it is noted, and goes on
     keeps : {v : Value} {mem' : List ℕ} {scope sort k a from : ℕ} → h.came ≡ Worth v → scope ≡ get_or mem (m.frames + value_field) 0 → Renoted o.regions mem mem' r sort k a (note_at mem r note_mark)
         → Fact s mem' (meaning_at R.W r) sort k a → Arrived R o mem' (released (came m m.mode m.value from) scope) v
-        → Turned R mem mem' out out m x o (Next (released (came m m.mode m.value from) scope))
+        → Turned R mem mem' out out m x o (Ok (Next (released (came m m.mode m.value from) scope)))
     keeps {mem' = mem'} {scope} {from = from} e es w f ar =
         let b = below h in
         let b1 = b.ascending in
@@ -108,11 +108,11 @@ module _ {s : Source} {mem : List ℕ} {m : Machine} (w : Waiting mem m Phase.ke
 
   module _ {scope : ℕ} (es : scope ≡ get_or mem (m.frames + value_field) 0) where
     -- whatever else it is, it goes on
-    pub keep-passes : Takes s mem mem m (Next (released m scope))
+    pub keep-passes : Takes s mem mem m (Ok (Next (released m scope)))
     keep-passes = record { turns = λ R x o out t. let v = by_phase t.frame Phase.keep_value (top-phase t ∙ w.phase) in let h = top_as t v.3 in lets_go h (waiting h) es }
 
     module _ {r : ℕ} (er : r ≡ get_or mem (m.frames + other_field) 0) where
-      pub keep-number : m.mode ≡ is_number → Takes s mem (noting mem r Sort.number m.value 0) m (Next (released m scope))
+      pub keep-number : m.mode ≡ is_number → Takes s mem (noting mem r Sort.number m.value 0) m (Ok (Next (released m scope)))
       keep-number e = record {
         turns = λ R x o out t.
             let v = by_phase t.frame Phase.keep_value (top-phase t ∙ w.phase) in
@@ -127,7 +127,7 @@ module _ {s : Source} {mem : List ℕ} {m : Machine} (w : Waiting mem m Phase.ke
       }
 
       -- a set that is a kept one
-      pub keep-kept : m.mode ≡ is_set → m.from < free_of mem → Takes s mem (noting mem r Sort.set m.value m.from) m (Next (released m scope))
+      pub keep-kept : m.mode ≡ is_set → m.from < free_of mem → Takes s mem (noting mem r Sort.set m.value m.from) m (Ok (Next (released m scope)))
       keep-kept e lo = record {
         turns = λ R x o out t.
             let v = by_phase t.frame Phase.keep_value (top-phase t ∙ w.phase) in
@@ -154,7 +154,7 @@ module _ {s : Source} {mem : List ℕ} {m : Machine} (w : Waiting mem m Phase.ke
 
       -- one for which there is room behind the kept ones
       pub keep-copied : {mem₁ : List ℕ} → m.mode ≡ is_set → free_of mem + m.value ≤ get_or mem slots_word 0 → Copied mem m.from mem mem₁ (free_of mem) m.value
-          → Takes s mem (noting (set mem₁ free_word (free_of mem + m.value)) r Sort.set m.value (free_of mem)) m (Next (released (came m m.mode m.value (free_of mem)) scope))
+          → Takes s mem (noting (set mem₁ free_word (free_of mem + m.value)) r Sort.set m.value (free_of mem)) m (Ok (Next (released (came m m.mode m.value (free_of mem)) scope)))
       keep-copied {mem₁} e room cp = record {
         turns = λ R x o out t.
             let v = by_phase t.frame Phase.keep_value (top-phase t ∙ w.phase) in

@@ -1,9 +1,12 @@
 -- A name: a big operator's element, or what is noted of a declared name; a definition's body is worked out first.
-use Rattle.std.specs.Prelude.{ℕ, ◌+◌, ◌-◌, ◌*◌, ◌≤◌, ◌<◌, List, [], ◌∷◌, ◌≡◌, refl, length, get_or}
+use Rattle.std.specs.Prelude.{ℕ, ◌+◌, ◌-◌, ◌*◌, ◌≤◌, ◌<◌, List, [], ◌∷◌, ◌≡◌, refl, length, get_or, Ok, Err}
 use Rattle.std.proofs.Common.{sym, ap, ◌∙◌, subst, arith, add-zero}
 use Rattle.std.proofs.Math.Decide.{dec_lt}
 use Rattle.node.specs.Result.{Result, Done, ◌>>=◌}
 use Rattle.node.proofs.ResultLaws.{bind_to, bind_refused, bind_value}
+use Rattle.node.specs.Returned.{refusal}
+use Rattle.machine.specs.declared.Move.TheVariants.{Next}
+use Rattle.machine.specs.Stepped.{Stepped}
 use Rattle.language.specs.Limits.{max_names, max_number}
 use Rattle.language.specs.Tokens.{Token}
 use Rattle.language.specs.Tree.{Expr, Named}
@@ -39,8 +42,6 @@ use Rattle.machine.specs.Openings.{Enclosed}
 use Rattle.machine.specs.OpenLaws.{encloses}
 use Rattle.machine.specs.OperandLaws.{operand-view, operand_as}
 use Rattle.machine.specs.declared.Machine.{Machine}
-use Rattle.machine.specs.declared.Move.{Move}
-use Rattle.machine.specs.declared.Move.TheVariants.{Next, Refused as Refuses}
 use Rattle.machine.specs.Entering.{Evaluates}
 use Rattle.machine.specs.EnteringLaws.{works-value}
 
@@ -122,7 +123,7 @@ module _ {s : Source} {mem : List ℕ} {m : Machine} (k : Evaluates s.work m Kin
       let u4 = u.inside in
       omega arith
 
-  pub element-steps : max_names ≤ r → {i : ℕ} → i ≡ m.scope + (r - max_names) → Steps s mem mem m (Next (came m is_number (get_or mem i 0) 0))
+  pub element-steps : max_names ≤ r → {i : ℕ} → i ≡ m.scope + (r - max_names) → Steps s mem mem m (Ok (Next (came m is_number (get_or mem i 0) 0)))
   element-steps l {i} ei = record {
     turns = λ R x o out h.
         let e = k.mode in
@@ -152,7 +153,7 @@ module _ {s : Source} {mem : List ℕ} {m : Machine} (k : Evaluates s.work m Kin
     pub sort-few : Ready s mem m → sort ≤ Sort.nothing
     sort-few h = let e = k.mode in (fact (entered h.state (omega arith))).sorted
 
-    pub number-steps : sort ≡ Sort.number → Steps s mem mem m (Next (came m is_number n 0))
+    pub number-steps : sort ≡ Sort.number → Steps s mem mem m (Ok (Next (came m is_number n 0)))
     number-steps z = record {
       turns = λ R x o out h.
           let e = k.mode in
@@ -161,12 +162,12 @@ module _ {s : Source} {mem : List ℕ} {m : Machine} (k : Evaluates s.work m Kin
           comes q (Number n) (noted-value q (i.stands (named_by q k.until er).token)) (record { mode_is = refl; value-is = refl; small = i.small }) tt;
     }
 
-    pub signal-steps : sort ≡ Sort.signal → Steps s mem mem m (Next (came m is_logic 0 0))
+    pub signal-steps : sort ≡ Sort.signal → Steps s mem mem m (Ok (Next (came m is_logic 0 0)))
     signal-steps z = record {
       turns = λ R x o out h. let e = k.mode in let q = entered h (omega arith) in comes q Logic (meaning q ((fact q).signal z) ∙ stands_for_lem refl) refl tt;
     }
 
-    pub set-steps : sort ≡ Sort.set → {a : ℕ} → a ≡ note_at mem r note_address → Steps s mem mem m (Next (came m is_set n a))
+    pub set-steps : sort ≡ Sort.set → {a : ℕ} → a ≡ note_at mem r note_address → Steps s mem mem m (Ok (Next (came m is_set n a)))
     set-steps z {a} ea = record {
       turns = λ R x o out h.
           let e = k.mode in
@@ -179,7 +180,7 @@ module _ {s : Source} {mem : List ℕ} {m : Machine} (k : Evaluates s.work m Kin
           (subst (λ (j : ℕ). Held mem j i.set) (sym ea) i.held, in_kept (omega arith) (omega arith));
     }
 
-    pub unsized-steps : sort ≡ Sort.bus → n ≡ 0 → {p : ℕ} → p ≡ place_at s.work m.value → Steps s mem mem m (Next (came m is_unsized p 0))
+    pub unsized-steps : sort ≡ Sort.bus → n ≡ 0 → {p : ℕ} → p ≡ place_at s.work m.value → Steps s mem mem m (Ok (Next (came m is_unsized p 0)))
     unsized-steps z zero-wide ep = record {
       turns = λ R x o out h.
           let e = k.mode in
@@ -188,7 +189,7 @@ module _ {s : Source} {mem : List ℕ} {m : Machine} (k : Evaluates s.work m Kin
           comes q (Unsized u.token.at) (meaning q (((fact q).bus z).waiting zero-wide) ∙ stands_for_lem refl) (record { mode_is = refl; place_is = ep ∙ u.place }) tt;
     }
 
-    pub bus-steps : sort ≡ Sort.bus → (n ≡ 0 → ⊥) → {p : ℕ} → p ≡ place_at s.work m.value → Steps s mem mem m (Next (came m is_bus p r))
+    pub bus-steps : sort ≡ Sort.bus → (n ≡ 0 → ⊥) → {p : ℕ} → p ≡ place_at s.work m.value → Steps s mem mem m (Ok (Next (came m is_bus p r)))
     bus-steps z wide ep = record {
       turns = λ R x o out h.
           let e = k.mode in
@@ -200,7 +201,7 @@ module _ {s : Source} {mem : List ℕ} {m : Machine} (k : Evaluates s.work m Kin
           (record { mode_is = refl; place_is = ep ∙ u.place; declared = l; named = u.uses.spelt l; means = d; small = b.small }) tt;
     }
 
-    pub identifier-steps : sort ≡ Sort.identifier → Steps s mem mem m (Next (came m is_choice 0 r))
+    pub identifier-steps : sort ≡ Sort.identifier → Steps s mem mem m (Ok (Next (came m is_choice 0 r)))
     identifier-steps z = record {
       turns = λ R x o out h.
           let e = k.mode in
@@ -209,13 +210,13 @@ module _ {s : Source} {mem : List ℕ} {m : Machine} (k : Evaluates s.work m Kin
           comes q (Choice i.words) (meaning q i.identifies ∙ stands_for_lem refl) (record { mode_is = refl; declared = l; means = i.identifies }) tt;
     }
 
-    pub nothing-steps : sort ≡ Sort.nothing → Steps s mem mem m (Refuses 6 0)
+    pub nothing-steps : sort ≡ Sort.nothing → Steps s mem mem m (Err (refusal 6 0))
     nothing-steps z = record {
       turns = λ R x o out h. let e = k.mode in let q = entered h (omega arith) in fails q (meaning q ((fact q).nothing z) ∙ bind_refused _ 6 0 worth refl);
     }
 
     -- a definition: its body is worked out, and a frame waits to keep what it comes to
-    pub body-steps : sort ≡ Sort.body → {mem' : List ℕ} {u : Move} → Enclosed mem mem' m Phase.keep_value 0 r (mode_of Evaluate) n u → Steps s mem mem' m u
+    pub body-steps : sort ≡ Sort.body → {mem' : List ℕ} {u : Stepped} → Enclosed mem mem' m Phase.keep_value 0 r (mode_of Evaluate) n u → Steps s mem mem' m u
     body-steps z {mem'} {u} w = record {
       turns = λ R x o out h.
           let e = k.mode in

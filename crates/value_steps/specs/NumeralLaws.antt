@@ -4,6 +4,7 @@ use Rattle.std.proofs.Math.Option.{some}
 use Rattle.std.proofs.Common.{sym, ap, ◌∙◌, subst, arith}
 use Rattle.node.specs.Result.{Done, ◌>>=◌}
 use Rattle.node.proofs.ResultLaws.{bind_again, bind_same, bind_at}
+use Rattle.node.specs.Returned.{Returned}
 use Rattle.language.specs.Tokens.{Token, tokens, is_of, Numeral as Digits}
 use Rattle.language.specs.Grammar.{front}
 use Rattle.language.specs.Values.{Number, in_range, decimal, value}
@@ -12,7 +13,6 @@ use Rattle.entries.specs.Kinds as Kind
 use Rattle.entries.specs.StoredLaws.{ends-own}
 use Rattle.sets.specs.Answers.{says}
 use Rattle.sets.specs.Digits.{digits_at}
-use Rattle.sets.specs.declared.Worked.{Worked}
 use Rattle.operands.specs.Entries.{kind_at, place_at}
 use Rattle.operands.specs.Classes.{class_of}
 use Rattle.operands.specs.ClassLaws.{place_is}
@@ -28,7 +28,7 @@ use Rattle.machine.specs.declared.Machine.{Machine}
 use Rattle.machine.specs.Entering.{Evaluates}
 use Rattle.machine.specs.EnteringLaws.{works-value}
 
-pub numeral-steps : {s : Source} {mem : List ℕ} {m : Machine} {p : ℕ} (w : Worked) → Evaluates s.work m Kind.numeral Kind.truth → p ≡ place_at s.work m.value
+pub numeral-steps : {s : Source} {mem : List ℕ} {m : Machine} {p : ℕ} (w : Returned ℕ) → Evaluates s.work m Kind.numeral Kind.truth → p ≡ place_at s.work m.value
     → says w ≡ in_range p (decimal 0 (digits_at s.text p)) → Steps s mem mem m (numbered m w)
 numeral-steps {s} {m = m} {p} w k q g = record {
   turns = λ R x o out h.

@@ -1,7 +1,8 @@
 -- A parenthesis is what stands in it, as a value and as a formula.
-use Rattle.std.specs.Prelude.{ℕ, ◌-◌, ◌<◌, List, ◌≡◌, refl}
+use Rattle.std.specs.Prelude.{ℕ, ◌-◌, ◌<◌, List, ◌≡◌, refl, Ok}
 use Rattle.std.proofs.Common.{sym, ap, ◌∙◌, subst, arith}
 use Rattle.std.proofs.Math.Option.{some}
+use Rattle.machine.specs.declared.Move.TheVariants.{Next}
 use Rattle.language.specs.Tokens.{Token}
 use Rattle.language.specs.Tree.{Expr, Paren}
 use Rattle.language.specs.Expansion.{Context}
@@ -20,7 +21,6 @@ use Rattle.machine.specs.EnterLaws.{leads}
 use Rattle.machine.specs.Moves.{came}
 use Rattle.machine.specs.OperandLaws.{operand-view, operand_as, alongside}
 use Rattle.machine.specs.declared.Machine.{Machine}
-use Rattle.machine.specs.declared.Move.TheVariants.{Next}
 use Rattle.value_steps.specs.Parens.{Parenthesis}
 
 works-paren : (a : Aim) (c : Context) (t : Token) (e : Expr) → works a c (Paren t e) ≡ works a c e
@@ -36,7 +36,7 @@ paren-inside {m = m} r k =
     let z = has_entry v.1 (known-paren v.0 v.1 p.known).proper in
     omega arith
 
-pub paren-steps : {s : Source} {mem : List ℕ} {m : Machine} {j : ℕ} → Parenthesis s.work m → j ≡ m.value - 1 → Steps s mem mem m (Next (came m m.mode j 0))
+pub paren-steps : {s : Source} {mem : List ℕ} {m : Machine} {j : ℕ} → Parenthesis s.work m → j ≡ m.value - 1 → Steps s mem mem m (Ok (Next (came m m.mode j 0)))
 paren-steps {s} {m = m} {j} k ej = record {
   turns = λ R x o out h.
       let n = entered h k.mode in

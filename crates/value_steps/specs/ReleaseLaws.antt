@@ -1,7 +1,9 @@
 -- The frame of a definition takes what its body has come to: it is popped, the names of the definition's use are visible again, and what has come goes on.
-use Rattle.std.specs.Prelude.{ℕ, ◌+◌, ◌≤◌, ◌<◌, true, List, ◌++◌, ◌≡◌, refl, length, get_or}
+use Rattle.std.specs.Prelude.{ℕ, ◌+◌, ◌≤◌, ◌<◌, true, List, ◌++◌, ◌≡◌, refl, length, get_or, Ok}
 use Rattle.std.proofs.Common.{sym, ap, ◌∙◌, subst, arith, add-zero}
 use Rattle.node.specs.Result.{Result, Done}
+use Rattle.machine.specs.declared.Move.TheVariants.{Next}
+use Rattle.machine.specs.Stepped.{Stepped}
 use Rattle.language.specs.Limits.{max_names}
 use Rattle.language.specs.Tree.{Expr}
 use Rattle.language.specs.Values.{Value, Number, Set, Logic, Bus, Unsized, Choice}
@@ -23,8 +25,6 @@ use Rattle.machine.specs.States.{Standing, Come, written, Turned, TopOf, Takes}
 use Rattle.machine.specs.Moves.{came}
 use Rattle.machine.specs.TakeLaws.{words, value-word, other_word, room-under, pops}
 use Rattle.machine.specs.declared.Machine.{Machine}
-use Rattle.machine.specs.declared.Move.{Move}
-use Rattle.machine.specs.declared.Move.TheVariants.{Next}
 use Rattle.value_steps.specs.Moves.{released}
 
 module _ {s : Source} (R : Realm s) (o : Began) (mem : List ℕ) (m : Machine) (scope : ℕ) where
@@ -83,7 +83,7 @@ module _ {s : Source} {R : Realm s} {mem out : List ℕ} {m : Machine} {x : Resu
     -- what has come goes on, a set perhaps from another place; notes may have been written
     pub releases : {mem' : List ℕ} {scope from : ℕ} → scope ≡ get_or mem (m.frames + value_field) 0 → Agree o.regions mem mem' h.footing.depth (words h).base (m.frames + frame_words)
         → Noted R o.regions o.index mem' → Lasting R.W mem' out m.nodes → Come R o mem' (released (came m m.mode m.value from) scope) h.came
-        → Turned R mem mem' out out m x o (Next (released (came m m.mode m.value from) scope))
+        → Turned R mem mem' out out m x o (Ok (Next (released (came m m.mode m.value from) scope)))
     releases es a n l c =
         let z = p.holds_nothing in
         pops h {v = h.came} (record {
@@ -101,9 +101,9 @@ module _ {s : Source} {R : Realm s} {mem out : List ℕ} {m : Machine} {x : Resu
         })
 
     -- nothing is noted
-    pub lets_go : {scope : ℕ} → scope ≡ get_or mem (m.frames + value_field) 0 → Turned R mem mem out out m x o (Next (released m scope))
+    pub lets_go : {scope : ℕ} → scope ≡ get_or mem (m.frames + value_field) 0 → Turned R mem mem out out m x o (Ok (Next (released m scope)))
     lets_go {scope} es = releases {from = m.from} es agree_same h.noted h.lasting (same_come R o mem m scope h.came h.come)
 
 -- a memory that a function has written
-pub takes_in : {s : Source} {mem mem' new : List ℕ} {m : Machine} {r : Move} → mem' ≡ new → Takes s mem new m r → Takes s mem mem' m r
+pub takes_in : {s : Source} {mem mem' new : List ℕ} {m : Machine} {r : Stepped} → mem' ≡ new → Takes s mem new m r → Takes s mem mem' m r
 takes_in {s} {mem} {m = m} {r} e h = subst (λ (l : List ℕ). Takes s mem l m r) (sym e) h

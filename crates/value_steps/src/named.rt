@@ -6,28 +6,29 @@ ghost use Rattle.machine.specs.Phases as Phase;
 ghost use Rattle.machine.specs.Memory.{first_kept, frame_words};
 ghost use Rattle.machine.specs.States.{Ready, Steps, Topped, Takes};
 ghost use Rattle.machine.specs.Telling.{is_set};
-ghost use Rattle.operands.specs.Working.{source};
+ghost use Rattle.operands.specs.Working.{view};
 ghost use Rattle.machine.specs.Entering.{Evaluates, Waiting};
 ghost use Rattle.value_steps.specs.Moves.{released as released'};
 ghost use Rattle.value_steps.specs.Named.{Refers, noting};
 
 use language::limits;
-use machine::{FRAME, FREE_WORD, Machine, Move, NOTE, SLOTS_WORD, fields, modes, phases};
+use machine::{FRAME, FREE_WORD, Machine, Move, NOTE, SLOTS_WORD, Stepped, fields, modes, phases};
 use memory_sets::moving::lower;
 use name_values::sorts;
-use node::refusals;
+use node::{Refusal, refusals};
+use operands::Source;
 use operands::entry::place_at;
 
-pub fn name(text: &[u8], work: &[u8], refs: &[u16], memory: &mut [u32], m: Machine) -> Move
-    requires ready { Ready (source text.now work.now refs.now) memory.old m }
-    requires evaluates { Evaluates work.now m Kind.named Kind.numeral }
-    ensures { Steps (source text.now work.now refs.now) memory.old memory.new m result }
+pub fn name(source: &Source, memory: &mut [u32], m: Machine) -> Stepped
+    requires ready { Ready (view source.now) memory.old m }
+    requires evaluates { Evaluates source.now.work.now m Kind.named Kind.numeral }
+    ensures { Steps (view source.now) memory.old memory.new m result }
 {
     let k = m.value as usize;
-    let r = refs[k] as usize;
+    let r = source.refs[k] as usize;
     if r >= limits::MAX_NAMES {
         let i = m.scope + (r - limits::MAX_NAMES);
-        return Move::Next(m.came(modes::NUMBER, memory[i], 0));
+        return Ok(Move::Next(m.came(modes::NUMBER, memory[i], 0)));
     }
     let at = NOTE * r;
     let sort = memory[at];
@@ -35,38 +36,41 @@ pub fn name(text: &[u8], work: &[u8], refs: &[u16], memory: &mut [u32], m: Machi
     if sort == sorts::BODY as u32 {
         return m.enclose(memory, phases::KEEP_VALUE, 0, r, modes::EVALUATE, n);
     }
-    noted(text, work, refs, memory, m, r)
+    noted(source, memory, m, r)
 }
 
 // A declared name that is no definition, or one whose value is kept.
-fn noted(text: &[u8], work: &[u8], refs: &[u16], memory: &[u32], m: Machine, r: usize) -> Move
-    requires ready { Ready (source text.now work.now refs.now) memory.now m }
-    requires refers { Refers work.now refs.now memory.now m r }
-    ensures { Steps (source text.now work.now refs.now) memory.now memory.now m result }
+fn noted(source: &Source, memory: &[u32], m: Machine, r: usize) -> Stepped
+    requires ready { Ready (view source.now) memory.now m }
+    requires refers { Refers source.now.work.now source.now.refs.now memory.now m r }
+    ensures { Steps (view source.now) memory.now memory.now m result }
 {
     let at = NOTE * r;
     let sort = memory[at];
     let n = memory[at + fields::NOTE_NUMBER];
     if sort == sorts::NUMBER as u32 {
-        return Move::Next(m.came(modes::NUMBER, n, 0));
+        return Ok(Move::Next(m.came(modes::NUMBER, n, 0)));
     }
     if sort == sorts::SET as u32 {
-        return Move::Next(m.came(modes::SET, n, memory[at + fields::NOTE_ADDRESS] as usize));
+        return Ok(Move::Next(m.came(modes::SET, n, memory[at + fields::NOTE_ADDRESS] as usize)));
     }
     if sort == sorts::BUS as u32 {
-        let place = place_at(work, m.value as usize);
+        let place = place_at(source.work, m.value as usize);
         if n == 0 {
-            return Move::Next(m.came(modes::UNSIZED, place, 0));
+            return Ok(Move::Next(m.came(modes::UNSIZED, place, 0)));
         }
-        return Move::Next(m.came(modes::BUS, place, r));
+        return Ok(Move::Next(m.came(modes::BUS, place, r)));
     }
     if sort == sorts::SIGNAL as u32 {
-        return Move::Next(m.came(modes::LOGIC, 0, 0));
+        return Ok(Move::Next(m.came(modes::LOGIC, 0, 0)));
     }
     if sort == sorts::IDENTIFIER as u32 {
-        return Move::Next(m.came(modes::CHOICE, 0, r));
+        return Ok(Move::Next(m.came(modes::CHOICE, 0, r)));
     }
-    Move::Refused(refusals::NOT_VISIBLE, 0)
+    Err(Refusal {
+        number: refusals::NOT_VISIBLE,
+        place: 0,
+    })
 }
 
 // The frame of a definition is gone, and the names of its use are visible again.
@@ -75,14 +79,9 @@ pub fn released(m: Machine, scope: usize) -> Machine
     ensures { result ≡ released' m scope }
 {
     Machine {
-        mode: m.mode,
-        value: m.value,
-        from: m.from,
         scope,
-        depth: m.depth,
-        top: m.top,
         frames: m.frames + FRAME,
-        nodes: m.nodes,
+        ..m
     }
 }
 
@@ -98,30 +97,30 @@ fn note(memory: &mut [u32], r: usize, sort: u32, n: u32, address: usize)
 }
 
 // A definition's body has come to a value: a number or a set is kept.
-pub fn keep(text: &[u8], work: &[u8], refs: &[u16], memory: &mut [u32], m: Machine) -> Move
-    requires topped { Topped (source text.now work.now refs.now) memory.old m }
+pub fn keep(source: &Source, memory: &mut [u32], m: Machine) -> Stepped
+    requires topped { Topped (view source.now) memory.old m }
     requires waiting { Waiting memory.old m Phase.keep_value }
-    ensures { Takes (source text.now work.now refs.now) memory.old memory.new m result }
+    ensures { Takes (view source.now) memory.old memory.new m result }
 {
     if m.mode == modes::SET {
-        return keep_set(text, work, refs, memory, m);
+        return keep_set(source, memory, m);
     }
     let at = m.frames;
     let scope = memory[at + fields::VALUE] as usize;
     if m.mode != modes::NUMBER {
-        return Move::Next(released(m, scope));
+        return Ok(Move::Next(released(m, scope)));
     }
     let r = memory[at + fields::OTHER] as usize;
     note(memory, r, sorts::NUMBER as u32, m.value, 0);
-    Move::Next(released(m, scope))
+    Ok(Move::Next(released(m, scope)))
 }
 
 // A set is copied behind the kept ones, unless it is one of them; where there is no room for it nothing is kept.
-fn keep_set(text: &[u8], work: &[u8], refs: &[u16], memory: &mut [u32], m: Machine) -> Move
-    requires topped { Topped (source text.now work.now refs.now) memory.old m }
+fn keep_set(source: &Source, memory: &mut [u32], m: Machine) -> Stepped
+    requires topped { Topped (view source.now) memory.old m }
     requires waiting { Waiting memory.old m Phase.keep_value }
     requires mode_value { m.mode ≡ is_set }
-    ensures { Takes (source text.now work.now refs.now) memory.old memory.new m result }
+    ensures { Takes (view source.now) memory.old memory.new m result }
 {
     let at = m.frames;
     let scope = memory[at + fields::VALUE] as usize;
@@ -129,14 +128,14 @@ fn keep_set(text: &[u8], work: &[u8], refs: &[u16], memory: &mut [u32], m: Machi
     let free = memory[FREE_WORD] as usize;
     if m.from < free {
         note(memory, r, sorts::SET as u32, m.value, m.from);
-        return Move::Next(released(m, scope));
+        return Ok(Move::Next(released(m, scope)));
     }
     let end = free + m.value as usize;
     if (memory[SLOTS_WORD] as usize) < end {
-        return Move::Next(released(m, scope));
+        return Ok(Move::Next(released(m, scope)));
     }
     lower(memory, m.from, free, m.value as usize);
     memory[FREE_WORD] = end as u32;
     note(memory, r, sorts::SET as u32, m.value, free);
-    Move::Next(released(m.came(m.mode, m.value, free), scope))
+    Ok(Move::Next(released(m.came(m.mode, m.value, free), scope)))
 }

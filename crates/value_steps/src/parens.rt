@@ -1,15 +1,16 @@
 // Parentheses, of values and of formulas.
 ghost use Rattle.machine.specs.States.{Ready, Steps};
-ghost use Rattle.operands.specs.Working.{source};
+ghost use Rattle.operands.specs.Working.{view};
 ghost use Rattle.value_steps.specs.Parens.{Parenthesis};
 
-use machine::{Machine, Move};
+use machine::{Machine, Move, Stepped};
+use operands::Source;
 
 // What stands in it is worked out in its place.
-pub fn paren(text: &[u8], work: &[u8], refs: &[u16], memory: &[u32], m: Machine) -> Move
-    requires ready { Ready (source text.now work.now refs.now) memory.now m }
-    requires parenthesis { Parenthesis work.now m }
-    ensures { Steps (source text.now work.now refs.now) memory.now memory.now m result }
+pub fn paren(source: &Source, memory: &[u32], m: Machine) -> Stepped
+    requires ready { Ready (view source.now) memory.now m }
+    requires parenthesis { Parenthesis source.now.work.now m }
+    ensures { Steps (view source.now) memory.now memory.now m result }
 {
-    Move::Next(m.came(m.mode, m.value - 1, 0))
+    Ok(Move::Next(m.came(m.mode, m.value - 1, 0)))
 }

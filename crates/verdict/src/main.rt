@@ -4,10 +4,10 @@
 
 ghost use Rattle.std.specs.Prelude.{◌≤◌, length, IfOk};
 
+use basics::MAX_TOLD;
 use diagnosis::{Diagnosis, diagnose};
 use evaluator::Verdict;
 use judging::ROWS;
-use node::Answer;
 use recordings::LONGEST;
 use std::io::{self, BufWriter, Read, Write};
 use std::rt::Files;
@@ -38,13 +38,11 @@ fn print_fault(
     work: &mut [u8],
 ) -> io::Result<()> {
     let mut rows = rows_buffer();
-    let found = diagnose(text, recording, work, &mut rows);
-    match found {
-        Diagnosis::Preset(line) => print_line(to, b"PRESET ", line),
-        Diagnosis::Assert(line) => print_line(to, b"ASSERT ", line),
-        Diagnosis::Guarantee(line) => print_line(to, b"GUARANTEE ", line),
-        Diagnosis::Holds => Ok(()),
-        Diagnosis::Refused(_, _) => Ok(()),
+    match diagnose(text, recording, work, &mut rows) {
+        Ok(Diagnosis::Preset(line)) => print_line(to, b"PRESET ", line),
+        Ok(Diagnosis::Assert(line)) => print_line(to, b"ASSERT ", line),
+        Ok(Diagnosis::Guarantee(line)) => print_line(to, b"GUARANTEE ", line),
+        Ok(Diagnosis::Holds) | Err(_) => Ok(()),
     }
 }
 
@@ -56,11 +54,10 @@ fn print_verdict(
     size: u32,
     work: &mut [u8],
 ) -> io::Result<()> {
-    let verdict = judging::judge_start(text, start, size, work);
-    match verdict {
-        Verdict::Refused(number, place) => listing::answer(to, Answer::Refused(number, place)),
-        Verdict::Holds => to.write_all(b"holds\n"),
-        Verdict::Fails => {
+    match judging::judge_start(text, start, size, work) {
+        Err(refusal) => listing::answer(to, Err(refusal)),
+        Ok(Verdict::Holds) => to.write_all(b"holds\n"),
+        Ok(Verdict::Fails) => {
             to.write_all(b"fails\n")?;
             print_fault(to, text, start, work)
         }
@@ -92,7 +89,10 @@ fn run<R: Files + Input + Eprint>(
         Err(error) => return eprintln!(rt; "verdict: the recording cannot be read: {error}"),
     };
     match input::fill(&mut rt.reader(), text) {
-        Ok(n) => print_verdict(to, &text[..n], &start[..first], basics::told(size), work),
+        Ok(n) => {
+            let told = size.min(MAX_TOLD) as u32;
+            print_verdict(to, &text[..n], &start[..first], told, work)
+        }
         Err(error) => eprintln!(rt; "verdict: the text cannot be read: {error}"),
     }
 }

@@ -1,5 +1,5 @@
--- What clearing the first bytes keeps, one byte more of it, and that it forgets what they were.
-use Rattle.std.specs.Prelude.{◌≡◌, refl, List, [], ◌∷◌, ℕ, zero, suc, ◌+◌, ◌-◌, ◌≤◌, min, length, set}
+-- What clearing the first bytes keeps, one byte more of it, that it is zeros in their place, and that it forgets what they were.
+use Rattle.std.specs.Prelude.{◌≡◌, refl, List, [], ◌∷◌, ◌++◌, ℕ, zero, suc, ◌+◌, ◌-◌, ◌≤◌, min, length, set, take, drop, replicate}
 use Rattle.std.proofs.Common.{sym, ap, ◌∙◌, le_of_suc-le-suc, arith, drop-drop}
 use Rattle.basics.specs.Clearing.{cleared}
 use Rattle.basics.specs.ClearingLaws.{length-cleared}
@@ -19,6 +19,7 @@ pub cleared_none : (w : List ℕ) → w ≡ cleared 0 w
 unfolding cleared
 cleared_none w = refl
 
+-- one byte more
 pub cleared_more : (n : ℕ) (w : List ℕ) → set (cleared n w) n 0 ≡ cleared (suc n) w
 unfolding cleared
 cleared_more zero [] = refl
@@ -29,6 +30,13 @@ cleared_more (suc n) (b ∷ w) = ap (λ t. 0 ∷ t) (cleared_more n w)
 -- a list of which the first i bytes were cleared
 pub kept-length : (i : ℕ) (v w : List ℕ) → v ≡ cleared i w → length v ≡ length w
 kept-length i v w e = ap length e ∙ length-cleared i w
+
+-- so many zeros before what stands behind them
+front-cleared : (i : ℕ) (w : List ℕ) → replicate (length (take i w)) 0 ++ drop i w ≡ cleared i w
+unfolding cleared
+front-cleared zero w = refl
+front-cleared (suc i) [] = refl
+front-cleared (suc i) (b ∷ w) = ap (λ t. 0 ∷ t) (front-cleared i w)
 
 -- beyond the end there is nothing to clear
 cleared-least : (i n : ℕ) (w : List ℕ) → i ≡ min n (length w) → cleared i w ≡ cleared n w
@@ -42,6 +50,9 @@ cleared-least (suc i) (suc n) (b ∷ w) e = ap (λ t. 0 ∷ t) (cleared-least i 
 
 pub cleared-all : (i n : ℕ) (v w : List ℕ) → v ≡ cleared i w → i ≡ min n (length w) → v ≡ cleared n w
 cleared-all i n v w e h = e ∙ cleared-least i n w h
+
+pub zeros-cleared : (i n : ℕ) (v w : List ℕ) → v ≡ replicate (length (take i w)) 0 → i ≡ min n (length w) → v ++ drop i w ≡ cleared n w
+zeros-cleared i n v w e h = ap (λ (t : List ℕ). t ++ drop i w) e ∙ front-cleared i w ∙ cleared-least i n w h
 
 pub past-cleared : (m n : ℕ) (w : List ℕ) → n ≤ m → past m (cleared n w) ≡ past m w
 unfolding past cleared

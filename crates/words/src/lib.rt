@@ -6,19 +6,16 @@ ghost use Rattle.std.specs.Prelude.{◌≡◌, ◌+◌, ◌*◌, ◌≤◌, leng
 ghost use Rattle.basics.specs.Clearing.{cleared};
 ghost use Rattle.words.specs.Words.{word_at, put_word};
 
-use basics::least;
-use basics::u8_u32::wide;
-
 // Word i. Like `put` it is no entry point: the callers have bounded the index by the buffer they were lent, and show it.
 pub fn get(work: &[u8], i: usize) -> u32
     requires { 4 * i + 4 ≤ length work.now }
     ensures { result ≡ word_at work.now i }
 {
     let at = 4 * i;
-    let a = wide(work[at]);
-    let b = wide(work[at + 1]);
-    let c = wide(work[at + 2]);
-    let d = wide(work[at + 3]);
+    let a = u32::from(work[at]);
+    let b = u32::from(work[at + 1]);
+    let c = u32::from(work[at + 2]);
+    let d = u32::from(work[at + 3]);
     ((a * 256 + b) * 256 + c) * 256 + d
 }
 
@@ -37,10 +34,6 @@ pub fn put(work: &mut [u8], i: usize, v: u32)
 pub fn clear(work: &mut [u8], n: usize)
     ensures { work.new ≡ cleared n work.old }
 {
-    let end = least(n, work.len());
-    let mut i = 0;
-    while i < end {
-        work[i] = 0;
-        i += 1;
-    }
+    let end = n.min(work.len());
+    work[..end].fill(0);
 }

@@ -1,5 +1,5 @@
 -- `write_basic` by stages: the reader's answer into a table and a list of the largest size, then what is written out of them.
-use Rattle.std.specs.Prelude.{ℕ, ◌≤◌, ◌≡◌, refl, List, [], leb}
+use Rattle.std.specs.Prelude.{ℕ, ◌≤◌, ◌≡◌, refl, List, [], leb, Ok, Err}
 use Rattle.std.proofs.Math.Path.{ap, sym, subst}
 use Rattle.std.proofs.Common.{ap₂, ◌∙◌, arith, le-leb, leb-true}
 use Rattle.std.proofs.Math.Option.{Option}
@@ -11,8 +11,8 @@ use Rattle.node.specs.Formed.{Formed}
 use Rattle.node.proofs.TableLaws.{checked-done}
 use Rattle.node.specs.Written.{nodes_of, count}
 use Rattle.node.proofs.WrittenLaws.{length_of, table_of, table-root}
-use Rattle.node.specs.declared.Answer.{Answer}
-use Rattle.node.specs.declared.Answer.TheVariants.{Accepted}
+use Rattle.node.specs.Returned.{Returned}
+use Rattle.node.specs.declared.Refusal.{Refusal}
 use Rattle.language.specs.Limits.{max_signals, work_bytes}
 use Rattle.language.specs.Tree.{Model, Mealy, Moore, Spec}
 use Rattle.language.specs.Places.{refuse_at}
@@ -30,9 +30,8 @@ use Rattle.reader.specs.Promise.{ReadsTold}
 use Rattle.basic.specs.Spelling.{names_of}
 use Rattle.basic.specs.Basic.{basic_text}
 use Rattle.basic.specs.Writing.{written, writing, fault_from}
-use Rattle.basic.specs.declared.Written.{Written}
 use Rattle.layout.specs.Text.{model_of, Delivers, handed, outcome}
-use Rattle.writer.specs.Promise.{unwritten, Writes}
+use Rattle.writer.specs.Promise.{Writes}
 use Rattle.writer.specs.PromiseLaws.{writes}
 
 -- what the reader refuses the writer does
@@ -95,18 +94,15 @@ pub record AtHand (text work work' table list : List ℕ) (n s target : ℕ) : T
 module _ {text work work' table table' list list' : List ℕ} {told : Told} (read : ReadsTold text work table list work' table' list' told) (large : length table ≡ max_nodes)
     (long : length list ≡ max_signals) where
   -- a text that is refused
-  read-refused : {n p : ℕ} (out : List ℕ) → told.answer ≡ Answer.Refused n p → Writes text work out work' out (Written.Refused n p)
+  pub read-refused : {e : Refusal} (out : List ℕ) → told.answer ≡ Err e → Writes text work out work' out (Err e)
   unfolding ◌>>=◌
-  read-refused {n} {p} out e =
-      let r : writing text (length work) (length out) ≡ Refused n p =
-      writing-refused text (length work) (length out) (ap₂ (reading text (length work)) (sym large) (sym long) ∙ refused read.reads.yields e) in
+  read-refused {e} out h =
+      let r : writing text (length work) (length out) ≡ Refused e.number e.place =
+      writing-refused text (length work) (length out) (ap₂ (reading text (length work)) (sym large) (sym long) ∙ refused read.reads.yields h) in
       writes (rw r) (rw r) read.reads.yields.work_left
 
-  pub read-handed : {n p : ℕ} {r : Written} (out : List ℕ) → told.answer ≡ Answer.Refused n p → r ≡ unwritten told.answer → Writes text work out work' out r
-  read-handed out e h = subst (Writes text work out work' out) (sym (h ∙ ap unwritten e)) (read-refused out e)
-
   -- a text that is accepted
-  module _ {n s : ℕ} (e : told.answer ≡ Accepted n s) where
+  module _ {n s : ℕ} (e : told.answer ≡ Ok (n, s)) where
     pub read_accepted : AtHand text work work' table' list' n s told.facts.target
     unfolding text_expansion
     read_accepted =
@@ -135,6 +131,6 @@ module _ {text work work' table table' list list' : List ℕ} {told : Told} (rea
         }
 
 -- what is written
-pub hand_writes : {text work work' table list out out' : List ℕ} {n s target : ℕ} {r : Written} → AtHand text work work' table list n s target
+pub hand_writes : {text work work' table list out out' : List ℕ} {n s target : ℕ} {r : Returned ℕ} → AtHand text work work' table list n s target
     → Delivers (outcome (length out) text (model_of target) (take s list) (take n table)) out out' r → Writes text work out work' out' r
 hand_writes {text} {out = out} h d = let e = h.result (length out) in writes (rw e d.answer) (rw e d.text_left) h.work_left

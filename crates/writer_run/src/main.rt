@@ -2,9 +2,7 @@
 // levels and one beyond, every sign, both models, a table of 8,191 levels. A written text is told by its bytes and a sum of them.
 #![tactic(auto)]
 
-use basic::Written;
-use basics::u8_u64::wide;
-use node::{Answer, MAX_NODES, MAX_SIGNALS};
+use node::{MAX_NODES, MAX_SIGNALS};
 use std::io::{self, BufWriter, Write};
 use std::rt::Files;
 use std::{env, fs};
@@ -19,16 +17,11 @@ fn room() -> [u8; ROOM] {
 // What a sum is taken modulo.
 const MODULUS: u64 = 4294967291;
 
-fn number(to: &mut impl Write, word: &[u8], n: u64) -> io::Result<()> {
-    to.write_all(word)?;
-    write!(to, "{n}")
-}
-
 // Each byte in its place changes the sum.
 fn sum_of(text: &[u8]) -> u64 {
     let mut sum: u64 = 0;
     for byte in text {
-        sum = (sum * 257 + wide(*byte)) % MODULUS;
+        sum = (sum * 257 + u64::from(*byte)) % MODULUS;
     }
     sum
 }
@@ -45,21 +38,19 @@ fn read_back(to: &mut impl Write, text: &[u8]) -> io::Result<()> {
 fn tell(to: &mut impl Write, out: &[u8], n: usize) -> io::Result<()> {
     let end = input::within(n, out);
     let text = &out[..end];
-    number(to, b": bytes ", n as u64)?;
-    number(to, b", sum ", sum_of(text))?;
-    to.write_all(b", read back: ")?;
+    let sum = sum_of(text);
+    write!(to, ": bytes {n}, sum {sum}, read back: ")?;
     read_back(to, text)
 }
 
 fn write(to: &mut impl Write, text: &[u8]) -> io::Result<()> {
     let mut work = input::large_buffer();
     let mut out = room();
-    let written = writer::write_basic(text, &mut work, &mut out);
-    match written {
-        Written::Bytes(bytes) => tell(to, &out, bytes as usize),
-        Written::Refused(number, place) => {
+    match writer::write_basic(text, &mut work, &mut out) {
+        Ok(bytes) => tell(to, &out, bytes as usize),
+        Err(refusal) => {
             to.write_all(b": ")?;
-            listing::answer(to, Answer::Refused(number, place))
+            listing::answer(to, Err(refusal))
         }
     }
 }

@@ -1,7 +1,8 @@
 -- Runs of stored words compose: the operands' nodes, then the operator's. Where the operands do not fit, the whole does not.
-use Rattle.std.specs.Prelude.{ℕ, ◌+◌, ◌-◌, ◌<◌, ◌≤◌, ◌≡◌, List, [], ◌∷◌, ◌++◌, length}
+use Rattle.std.specs.Prelude.{ℕ, ◌+◌, ◌-◌, ◌<◌, ◌≤◌, ◌≡◌, List, [], ◌∷◌, ◌++◌, length, refl, Option, Some, None}
 use Rattle.std.proofs.Common.{ap, ap₂, ◌∙◌, sym, subst, append_assoc, length-append, arith}
 use Rattle.std.proofs.lemmas.List.Edits.{sets}
+use Rattle.std.specs.Option.{unwrap_or}
 use Rattle.std.proofs.Math.Decide.{dec_lt}
 use Rattle.node.specs.Limits.{max_nodes}
 use Rattle.node.specs.Ltl.{Unary, Binary, Formula, One, Two}
@@ -39,9 +40,17 @@ puts_as {us} {vs} {out} {out'} {at} {r} l e p = record {
   many = λ h. omega (arith, p.many h);
 }
 
+-- the count from the first node on that has no room
+abbrev pub too_many : ℕ
+too_many = 8_193
+
 -- what crate storing has put into a table of 8,192
-pub put_whole : {vs out out' : List ℕ} {at r : ℕ} → length out ≡ max_nodes → Storing.Puts r vs out out' at → Puts vs out out' at r
-put_whole e p = record { stored = λ h. let s = p.stored h in record { next = s.next; words = s.entries }; many = λ h. omega (arith, p.short h) }
+pub put_whole : (o : Option ℕ) {vs out out' : List ℕ} {at r : ℕ} → length out ≡ max_nodes → r ≡ unwrap_or o too_many → Storing.Puts o vs out out' at → Puts vs out out' at r
+put_whole (Some n) e u p =
+    let s = p.stored n refl in
+    let k = s.room in
+    rw u (record { stored = λ h. record { next = s.next; words = s.entries }; many = λ h. absurd (omega arith) })
+put_whole None e u p = let k = p.short refl in record { stored = λ h. absurd (omega arith); many = λ h. omega arith }
 
 -- where a formula's nodes end
 pub ends : {f : Formula} {out out' : List ℕ} {at m : ℕ} → Wrote f out out' at m → m ≤ max_nodes → m ≡ at + size f

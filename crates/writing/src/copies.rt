@@ -24,8 +24,7 @@ fn weight(kind: u32) -> u32
     requires { kind < kind_limit }
     ensures { result ≡ weight' (shape_of kind) }
 {
-    let k = kind as usize;
-    WEIGHTS[k]
+    WEIGHTS[kind as usize]
 }
 
 // The node with its operands numbered from `to` on where they were numbered from `from` on, both as large as a field can hold.
@@ -45,11 +44,9 @@ pub fn copy(from: usize, size: usize, at: usize, out: &mut [u32; MAX_NODES]) -> 
     if MAX_NODES - size < at {
         return TOO_MANY;
     }
-    let mut i = 0;
-    while i < size {
+    for i in 0..size {
         let word = moved(out[from + i], from as u32, at as u32);
         put(out, at + i, word);
-        i += 1;
     }
     at + size
 }
@@ -68,11 +65,9 @@ pub fn copy_from(
     if MAX_NODES - size < at {
         return TOO_MANY;
     }
-    let mut i = 0;
-    while i < size {
+    for i in 0..size {
         let word = moved(table[from + i], from as u32, at as u32);
         put(out, at + i, word);
-        i += 1;
     }
     at + size
 }
@@ -82,10 +77,8 @@ pub fn copy_out(table: &[u32; MAX_NODES], from: usize, size: usize, res: &mut [u
     requires { (from + size ≤ max_nodes) × ((at + size ≤ max_nodes) × (at + size ≤ length res.old)) }
     ensures { res.new ≡ sets res.old at (moves from at size table.now) }
 {
-    let mut i = 0;
-    while i < size {
+    for i in 0..size {
         let word = moved(table[from + i], from as u32, at as u32);
         res[at + i] = word;
-        i += 1;
     }
 }

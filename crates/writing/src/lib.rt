@@ -1,4 +1,5 @@
-// Writing a formula's nodes into a table of 8,192: every node through crate storing, which answers the next index, 8,193 where there is no room.
+// Writing a formula's nodes into a table of 8,192: every node through crate storing. The functions yield the next index, and the count 8,193 from the first node
+// on that has no room: it is no missing value, since the words of a buffer hold it and the work goes on with it (11 to 13 are refused before 16).
 // The functions ask for operator codes and signal numbers that a node's fields hold; nobody has to ask for room, since what does not fit is the index 8,193.
 #![tactic(auto)]
 
@@ -13,7 +14,8 @@ pub mod copies;
 pub mod window;
 
 // The index that stands for all past the last node.
-pub const TOO_MANY: usize = storing::NO_ROOM;
+// The number is no missing value: 8,193 goes on as a count where the table is full (head of crate writing).
+pub const TOO_MANY: usize = MAX_NODES + 1;
 
 // Stores a word at an index.
 pub fn put(out: &mut [u32; MAX_NODES], at: usize, word: u32) -> usize
@@ -22,7 +24,7 @@ pub fn put(out: &mut [u32; MAX_NODES], at: usize, word: u32) -> usize
     if MAX_NODES < at {
         return TOO_MANY;
     }
-    storing::put(out, at, word)
+    storing::put(out, at, word).unwrap_or(TOO_MANY)
 }
 
 // A constant.
@@ -33,9 +35,9 @@ pub fn constant(holds: bool, out: &mut [u32; MAX_NODES], at: usize) -> usize
         return TOO_MANY;
     }
     if holds {
-        return storing::constant(Node::TRUE, out, at);
+        return storing::constant(Node::TRUE, out, at).unwrap_or(TOO_MANY);
     }
-    storing::constant(Node::FALSE, out, at)
+    storing::constant(Node::FALSE, out, at).unwrap_or(TOO_MANY)
 }
 
 // A signal: every signal node is written here. Its number has to fit the field, which holds no larger one.
@@ -46,7 +48,7 @@ pub fn signal(k: u32, out: &mut [u32; MAX_NODES], at: usize) -> usize
     if MAX_NODES < at {
         return TOO_MANY;
     }
-    storing::signal(k as usize, out, at)
+    storing::signal(k as usize, out, at).unwrap_or(TOO_MANY)
 }
 
 // An operator of one operand, over the node before m. Its number is one of sixteen: the kind's field holds no more.
@@ -60,7 +62,7 @@ pub fn cap(op: u32, m: usize, out: &mut [u32; MAX_NODES]) -> usize
     if MAX_NODES <= m {
         return TOO_MANY;
     }
-    storing::cap(op, m, out)
+    storing::cap(op, m, out).unwrap_or(TOO_MANY)
 }
 
 // An operator of two operands, over the nodes before m and before n. Its number is one of sixteen, as above.
@@ -77,7 +79,7 @@ pub fn join(op: u32, m: usize, n: usize, out: &mut [u32; MAX_NODES]) -> usize
     if MAX_NODES <= n {
         return TOO_MANY;
     }
-    storing::join(op, m, n, out)
+    storing::join(op, m, n, out).unwrap_or(TOO_MANY)
 }
 
 // n times a next over the node before m. Its number is one of sixteen, as above.
@@ -86,13 +88,11 @@ pub fn nexts(next: u32, n: usize, m: usize, out: &mut [u32; MAX_NODES]) -> usize
     ensures { Nexts next n out.old out.new m result }
 {
     let mut r = m;
-    let mut i = 0;
-    while i < n {
+    for i in 0..n {
         if MAX_NODES < r {
             return TOO_MANY;
         }
         r = cap(next, r, out);
-        i += 1;
     }
     r
 }

@@ -13,10 +13,8 @@ fn layer(n: usize, from: usize, size: usize, out: &mut [u32; MAX_NODES])
     ensures { Layered n from size out.old out.new }
 {
     let mut at = from + size;
-    let mut i = 0;
-    while i < n {
+    for i in 0..n {
         at = copy(from, size, at, out);
-        i += 1;
     }
 }
 
@@ -35,12 +33,10 @@ fn link(
 {
     let mut r = m;
     let mut first = m - size;
-    let mut j = n;
-    while 0 < j {
+    for i in 0..n {
         let later = cap(next, r, out);
         r = join(op, first, later, out);
         first -= size;
-        j -= 1;
     }
     r
 }

@@ -1,5 +1,4 @@
--- `section` meets its contract. The loop's invariant: i lines are passed, and those of the part are folded.
-use Prim.Native.Nat.{◌-◌, ◌≤◌}
+-- `section` meets its contract. The loop's invariant: the lines before are passed, and those of the part are folded.
 use mathlib.Core.List.{List}
 use Rattle.node.specs.Ltl.{Formula}
 use Rattle.language.specs.Tree.{Part}
@@ -7,9 +6,6 @@ use Rattle.assembly.specs.Gathered.{Lined}
 use Rattle.assembly.specs.Folding.{Passed}
 use Rattle.assembly.proofs.section.Given as goal
 
-abbrev pub invariant-loop-i : goal.invariant-loop-i
-invariant-loop-i l =
-    (l.i ≤ l.count) × ((ls : List (Part × Formula)) → Lined ls l.lines l.count l.table → Passed l.part ls l.table l.initial.out l.out l.at l.i l.start l.f)
-
-abbrev pub decreases-loop-i : goal.decreases-loop-i
-decreases-loop-i l = l.count - l.i
+abbrev pub invariant-loop-line : goal.invariant-loop-line
+invariant-loop-line l =
+    (ls : List (Part × Formula)) → Lined ls l.lines l.count l.table → Passed l.part ls l.table l.initial.out l.out l.at l.line-index l.start l.f

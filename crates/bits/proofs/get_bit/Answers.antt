@@ -5,4 +5,4 @@ use Rattle.bits.proofs.get_bit.Goals as goal
 
 pub returns : goal.returns
 unfolding bit_at
-returns c = rw c.wide-x.ensures.0 refl
+returns c = refl

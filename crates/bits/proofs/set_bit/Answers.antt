@@ -5,4 +5,4 @@ use Rattle.bits.proofs.set_bit.Goals as goal
 
 pub returns : goal.returns
 unfolding put_bit
-returns c = rw (c.with_bit.ensures.0, c.wide-x.ensures.0) refl
+returns c = rw (c.with_bit.ensures.0, c.from-x.ensures) refl

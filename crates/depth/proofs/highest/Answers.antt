@@ -7,7 +7,7 @@ use Rattle.depth.proofs.highest.Goals as goal
 
 pub loop-i-preserved : goal.loop-i-preserved
 loop-i-preserved c =
-    ap (λ m. max m (highest (slice (c.loop-i.i + 1) c.args.to c.args.levels.now))) c.larger-most.ensures ∙ highest-part c.args.levels.now c.loop-i.i
+    ap (λ m. max m (highest (slice (c.loop-i.i + 1) c.args.to c.args.levels.now))) c.max-most.ensures ∙ highest-part c.args.levels.now c.loop-i.i
     c.args.to c.loop-i.most c.requires c.loop-i-test.true ∙ c.loop-i.invariant
 
 pub returns : goal.returns

@@ -1,5 +1,4 @@
 -- From row to row: whether the word clashes with a row is whether it does with one of the rest.
-use Prim.Native.Nat.{◌-◌}
 use mathlib.Core.Path.{◌≡◌}
 use lib.ListN.{take}
 use lib.Seq.{slice}
@@ -8,6 +7,3 @@ use Rattle.enumerations.proofs.clashes.Given as goal
 
 abbrev pub invariant-loop-i : goal.invariant-loop-i
 invariant-loop-i l = clash_rows l.n l.owner (take l.n l.row) (slice l.i l.count l.owners) (slice l.i l.count l.rows) ≡ clash_rows l.n l.owner (take l.n l.row) (take l.count l.owners) (take l.count l.rows)
-
-abbrev pub decreases-loop-i : goal.decreases-loop-i
-decreases-loop-i l = l.count - l.i

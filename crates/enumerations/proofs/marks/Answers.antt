@@ -7,7 +7,7 @@ use Rattle.enumerations.proofs.marks.Goals as goal
 
 pub loop-i-init : goal.loop-i-init
 unfolding bytes_at
-loop-i-init c = (refl, refl, omega arith)
+loop-i-init c = (refl, refl)
 
 pub overflow_add-at : goal.overflow_add-at
 overflow_add-at c =
@@ -22,12 +22,11 @@ loop-i-preserved c = (
       (omega (arith, c.loop-i-test.true, c.requires.0, c.loop-i.invariant.1)) c.byte_at.ensures,
   length-set c.loop-i.row c.loop-i.i c.byte_at.result ∙
       c.loop-i.invariant.1,
-  omega (arith, c.loop-i-test.true),
 )
 
 pub returns : goal.returns
 returns c = (
-  bytes-all c.args.text.now c.args.at c.loop-i.i c.args.n c.loop-i.row c.loop-i.invariant.0 c.loop-i.invariant.2
+  bytes-all c.args.text.now c.args.at c.loop-i.i c.args.n c.loop-i.row c.loop-i.invariant.0 (omega arith)
       c.loop-i-test.false,
   c.loop-i.invariant.1,
 )

@@ -1,5 +1,4 @@
 -- The marks so far are the text's bytes so far.
-use Prim.Native.Nat.{◌≤◌, ◌-◌}
 use mathlib.Core.Path.{◌≡◌}
 use lib.ListN.{length, take}
 use Rattle.language.specs.Limits.{max_marks}
@@ -7,7 +6,4 @@ use Rattle.enumerations.specs.Pass.{bytes_at}
 use Rattle.enumerations.proofs.marks.Given as goal
 
 abbrev pub invariant-loop-i : goal.invariant-loop-i
-invariant-loop-i l = (take l.i l.row ≡ bytes_at l.text l.at l.i) × (length l.row ≡ max_marks) × (l.i ≤ l.n)
-
-abbrev pub decreases-loop-i : goal.decreases-loop-i
-decreases-loop-i l = l.n - l.i
+invariant-loop-i l = (take l.i l.row ≡ bytes_at l.text l.at l.i) × (length l.row ≡ max_marks)

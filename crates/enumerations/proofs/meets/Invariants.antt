@@ -1,5 +1,4 @@
 -- From mark to mark: whether the words meet is whether their rests do.
-use Prim.Native.Nat.{◌-◌}
 use mathlib.Core.Path.{◌≡◌}
 use lib.ListN.{take}
 use lib.Seq.{slice}
@@ -8,6 +7,3 @@ use Rattle.enumerations.proofs.meets.Given as goal
 
 abbrev pub invariant-loop-i : goal.invariant-loop-i
 invariant-loop-i l = meet (slice l.i l.n l.a) (slice l.i l.n l.b) ≡ meet (take l.n l.a) (take l.n l.b)
-
-abbrev pub decreases-loop-i : goal.decreases-loop-i
-decreases-loop-i l = l.n - l.i

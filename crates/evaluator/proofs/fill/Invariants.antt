@@ -1,5 +1,5 @@
 -- `fill` meets its contract: before node i the rows of the nodes below i are right.
-use Prim.Native.Nat.{suc, ◌-◌, ◌≤◌}
+use Prim.Native.Nat.{suc}
 use mathlib.Core.Path.{◌≡◌}
 use lib.ListN.{length}
 use Rattle.node.specs.Limits.{max_signals}
@@ -7,7 +7,4 @@ use Rattle.evaluator.specs.Evaluated.{Evaluated}
 use Rattle.evaluator.proofs.fill.Given as goal
 
 abbrev pub invariant-loop-i : goal.invariant-loop-i
-invariant-loop-i l = (l.i ≤ length l.nodes) × ((length l.seen ≡ suc max_signals) × Evaluated l.recording l.lasso l.nodes l.i l.initial.rows l.rows)
-
-abbrev pub decreases-loop-i : goal.decreases-loop-i
-decreases-loop-i l = length l.nodes - l.i
+invariant-loop-i l = (length l.seen ≡ suc max_signals) × Evaluated l.recording l.lasso l.nodes l.i l.initial.rows l.rows

@@ -3,7 +3,7 @@ use Rattle.judging.specs.LongerLaws.{start-whole, start_longer}
 use Rattle.judging.proofs.judge_start.Goals as goal
 
 pub returns-then-start-le-LONGEST : goal.returns-then-start-le-LONGEST
-returns-then-start-le-LONGEST c = start-whole _ c.judge_text-verdict.ensures c.if-start-le-LONGEST.true
+returns-then-start-le-LONGEST c = start-whole _ c.judge_text-found.ensures c.if-start-le-LONGEST.true
 
 pub returns : goal.returns
-returns c = start_longer _ c.judge_text-verdict.ensures c.if-start-le-LONGEST.false c.moved.ensures
+returns c = start_longer _ c.judge_text-found.ensures c.if-start-le-LONGEST.false c.moved.ensures

@@ -6,9 +6,8 @@ use Rattle.lexer.proofs.store.Goals as goal
 pub returns-then-n-lt-MAX_TOKENS : goal.returns-then-n-lt-MAX_TOKENS
 returns-then-n-lt-MAX_TOKENS c =
     let if1 = c.if-n-lt-MAX_TOKENS in
-    let capped = c.capped in
     let put = c.put in
-    rw (lt-ltb c.args.n max_tokens if1.true, ← capped.ensures) put.ensures
+    rw (lt-ltb c.args.n max_tokens if1.true, ← c.min.ensures) put.ensures
 
 pub returns-else-n-lt-MAX_TOKENS : goal.returns-else-n-lt-MAX_TOKENS
 returns-else-n-lt-MAX_TOKENS c =

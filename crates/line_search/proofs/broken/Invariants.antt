@@ -8,6 +8,3 @@ use Rattle.line_search.proofs.broken.Given as goal
 abbrev pub invariant-loop-p : goal.invariant-loop-p
 invariant-loop-p l =
     broken_from l.strict (value_of l.rows l.width l.require) (value_of l.rows l.width l.assert) 0 l.n ≡ broken_from l.strict (value_of l.rows l.width l.require) (value_of l.rows l.width l.assert) l.p (l.n - l.p)
-
-abbrev pub decreases-loop-p : goal.decreases-loop-p
-decreases-loop-p l = l.n - l.p

@@ -4,9 +4,9 @@ use Rattle.lookahead.proofs.fill_spans.Goals as goal
 
 pub fill_near-requires : goal.fill_near-requires
 fill_near-requires c =
-    (c.requires.0, c.requires.1, omega (arith, c.least-count.ensures), omega (arith, c.least-count.ensures))
+    (c.requires.0, c.requires.1, omega (arith, c.min-count.ensures), omega (arith, c.min-count.ensures))
 
 pub fill_far-requires : goal.fill_far-requires
 fill_far-requires c =
-    let e = c.least-count.ensures in
+    let e = c.min-count.ensures in
     (c.requires.0, c.fill_near.ensures, omega (arith, e), λ h. omega (arith, e, h))

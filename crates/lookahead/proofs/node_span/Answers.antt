@@ -41,7 +41,7 @@ number_at-b-requires c =
 pub returns-then-kind-lt-NEXT : goal.returns-then-kind-lt-NEXT
 returns-then-kind-lt-NEXT c =
     let number = number_at c.args.near.now c.args.far.now in
-    c.larger.ensures ∙ ap₂ max c.number_at-a.ensures c.number_at-b.ensures ∙ joined-boolean c.kind-kind.result _ _ c.if-kind-lt-NEXT.true
+    c.max.ensures ∙ ap₂ max c.number_at-a.ensures c.number_at-b.ensures ∙ joined-boolean c.kind-kind.result _ _ c.if-kind-lt-NEXT.true
     ∙ node-joined _ number c.kind-kind.ensures c.if-kind-lt-NOT.false c.first-x.ensures c.if-kind-eq-NEXT.false c.if-kind-eq-NOT.false c.second-y.ensures
 
 pub returns-then-kind-le-FINALLY : goal.returns-then-kind-le-FINALLY
@@ -57,6 +57,6 @@ number_at-b-requires-2 c =
 pub returns : goal.returns
 returns c =
     let number = number_at c.args.near.now c.args.far.now in
-    c.forever-2.ensures ∙ ap forever_code (c.larger-2.ensures ∙ ap₂ max c.number_at-a.ensures c.number_at-b-2.ensures)
+    c.forever-2.ensures ∙ ap forever_code (c.max-2.ensures ∙ ap₂ max c.number_at-a.ensures c.number_at-b-2.ensures)
     ∙ joined-two c.kind-kind.result _ _ c.if-kind-lt-NEXT.false c.if-kind-le-FINALLY.false
     ∙ node-joined _ number c.kind-kind.ensures c.if-kind-lt-NOT.false c.first-x.ensures c.if-kind-eq-NEXT.false c.if-kind-eq-NOT.false c.second-y.ensures

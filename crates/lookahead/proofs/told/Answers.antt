@@ -15,4 +15,4 @@ returns-then-s-lt-HERE c =
     let e : s - here ≡ 0 = omega arith in rw (lt-leb endless s c.if-s-ge-ENDLESS.false, e)
 
 pub returns : goal.returns
-returns c = rw (lt-leb endless c.args.s (omega arith))
+returns c = rw (lt-leb endless c.args.s (omega arith), c.from.ensures)

@@ -4,21 +4,13 @@ use Rattle.machine.specs.Came.{Expand}
 use Rattle.machine_run.specs.AnswerLaws.{run-begins, formula-comes, formula-fails}
 use Rattle.machine_run.proofs.formula_of.Goals as goal
 
-pub evaluate-r-requires : goal.evaluate-r-requires
-evaluate-r-requires c =
-    let at-initial = c.initial-m in
-    let h = run-begins c.requires Expand at-initial.ensures in
+pub evaluate-requires : goal.evaluate-requires
+evaluate-requires c =
+    let h = run-begins c.requires Expand c.initial-m.ensures in
     record { stands = h.0; bare = h.1 }
 
-pub returns-in_default : goal.returns-in_default
-returns-in_default c =
-    let at-initial = c.initial-m in
-    let at-evaluate = c.evaluate-r in
-    let told = c.in_default.is in
-    rw (c.unwritten.ensures _ _ told) (formula-fails c.requires at-initial.ensures at-evaluate.ensures told refl)
+pub returns-in-Ok : goal.returns-in-Ok
+returns-in-Ok c = formula-comes c.requires c.initial-m.ensures c.evaluate.ensures c.in-Ok.is
 
-pub returns : goal.returns
-returns c =
-    let at-initial = c.initial-m in
-    let at-evaluate = c.evaluate-r in
-    formula-comes c.requires at-initial.ensures at-evaluate.ensures c.in-Came.is
+pub returns-in-Err : goal.returns-in-Err
+returns-in-Err c = formula-fails c.requires c.initial-m.ensures c.evaluate.ensures c.in-Err.is refl

@@ -1,5 +1,5 @@
 -- `all_fit` meets its contract: all fit where those before i do and those from i on.
-use Prim.Native.Nat.{◌≤◌, ◌-◌}
+use Prim.Native.Nat.{◌≤◌}
 use mathlib.Core.Path.{◌≡◌}
 use mathlib.Core.Bool.{◌&&◌}
 use lib.ListN.{length, drop}
@@ -8,6 +8,3 @@ use Rattle.node.proofs.all_fit.Given as goal
 
 abbrev pub invariant-loop-i : goal.invariant-loop-i
 invariant-loop-i l = (l.i ≤ length l.nodes) × (all_fit l.limit 0 l.nodes ≡ (l.fit && all_fit l.limit l.i (drop l.i l.nodes)))
-
-abbrev pub decreases-loop-i : goal.decreases-loop-i
-decreases-loop-i l = length l.nodes - l.i

@@ -38,11 +38,11 @@ fields-3 c =
 
 pub returns-then-first-eq0 : goal.returns-then-first-eq0
 returns-then-first-eq0 c =
-    next-first (fields-3 c) _ c.wide-first.ensures.0 c.if-operands-eq0.false c.if-first-eq0.true
+    next-first (fields-3 c) _ c.from-first.ensures c.if-operands-eq0.false c.if-first-eq0.true
 
 pub unary-requires : goal.unary-requires
 unary-requires c =
-    (kind_fits c.ranges.word.fits c.kind-kind.ensures, number_fits _ c.requires c.wide-first.ensures.0)
+    (kind_fits c.ranges.word.fits c.kind-kind.ensures, number_fits _ c.requires c.from-first.ensures)
 
 fields-4 : (c : goal.After-unary) → FieldsRead c.args.word c.kind-kind.result c.first-a.result c.second-b.result c.arity-operands.result
 fields-4 c =
@@ -55,7 +55,7 @@ fields-4 c =
 
 pub returns-then-operands-eq1 : goal.returns-then-operands-eq1
 returns-then-operands-eq1 c =
-    next_one (fields-4 c) _ c.wide-first.ensures.0 c.if-operands-eq0.false c.if-first-eq0.false c.if-operands-eq1.true c.unary.ensures
+    next_one (fields-4 c) _ c.from-first.ensures c.if-operands-eq0.false c.if-first-eq0.false c.if-operands-eq1.true c.unary.ensures
 
 fields-5 : (c : goal.Else-operands-eq1) → FieldsRead c.args.word c.kind-kind.result c.first-a.result c.second-b.result c.arity-operands.result
 fields-5 c =
@@ -81,12 +81,12 @@ fields-6 c =
 
 pub returns-then-second-eq0 : goal.returns-then-second-eq0
 returns-then-second-eq0 c =
-    next-second (fields-6 c) _ c.wide-first.ensures.0 c.if-operands-eq0.false c.if-first-eq0.false c.if-operands-eq1.false c.wide-second.ensures.0 c.if-second-eq0.true
+    next-second (fields-6 c) _ c.from-first.ensures c.if-operands-eq0.false c.if-first-eq0.false c.if-operands-eq1.false c.from-second.ensures c.if-second-eq0.true
 
 pub binary-requires : goal.binary-requires
 binary-requires c = (
   kind_fits c.ranges.word.fits c.kind-kind.ensures,
-  (number_fits _ c.requires c.wide-first.ensures.0, number_fits _ c.requires c.wide-second.ensures.0),
+  (number_fits _ c.requires c.from-first.ensures, number_fits _ c.requires c.from-second.ensures),
 )
 
 fields-7 : (c : goal.After-binary) → FieldsRead c.args.word c.kind-kind.result c.first-a.result c.second-b.result c.arity-operands.result
@@ -100,5 +100,5 @@ fields-7 c =
 
 pub returns : goal.returns
 returns c =
-    next-two (fields-7 c) _ c.wide-first.ensures.0 c.if-operands-eq0.false c.if-first-eq0.false c.if-operands-eq1.false c.wide-second.ensures.0
+    next-two (fields-7 c) _ c.from-first.ensures c.if-operands-eq0.false c.if-first-eq0.false c.if-operands-eq1.false c.from-second.ensures
     c.if-second-eq0.false c.binary.ensures

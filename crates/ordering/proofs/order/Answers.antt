@@ -84,4 +84,4 @@ loop-operand-smaller c =
 pub loop-operand-preserved : goal.loop-operand-preserved
 loop-operand-preserved c =
     run-back c.loop-operand.invariant (sym c.in-Word.is ∙ c.next_of-next.ensures) c.put-written.ensures c.if-written-gt-MAX_NODES.false
-    c.if-depth-eq0.false c.wide-i.ensures.0 c.put-written.auto.out
+    c.if-depth-eq0.false c.from-i.ensures c.put-written.auto.out

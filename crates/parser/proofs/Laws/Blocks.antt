@@ -1,4 +1,5 @@
 -- Lines from the token before them on, one turn of their loop and the ways out; a subsection's braces, and a subsection that may be missing.
+use Rattle.std.specs.Prelude.{Ok, Err}
 use Prim.Native.Nat.{ℕ, suc, ◌+◌, ◌≤◌, ◌<◌}
 use Prim.Native.String.{String}
 use native.Mathlib.Omega.{arith}
@@ -6,6 +7,7 @@ use mathlib.Core.Bool.{false}
 use mathlib.Core.List.{List, [], ◌∷◌, append-nil}
 use mathlib.Core.Path.{◌≡◌, refl, sym, ap, ◌∙◌, subst}
 use lib.ListN.{length, drop, length-append, length-drop}
+use Rattle.node.specs.Returned.{refusal}
 use Rattle.node.specs.Result.{Done}
 use Rattle.node.proofs.ResultLaws.{bind_refused, bind_to}
 use Rattle.language.specs.Tree.{Defined, Enumerated, OneSignal, OfWidth, OfType}
@@ -15,8 +17,7 @@ use Rattle.language.proofs.Laws.Basics.Tests.{pick, leave}
 use Rattle.lexer.specs.Numbers.{fixed}
 use Rattle.entries.specs.Flat.{Entry, each, flat, under}
 use Rattle.entries.specs.declared.Cursor.{Cursor}
-use Rattle.entries.specs.declared.Parse.{Parse}
-use Rattle.entries.specs.declared.Parse.TheVariants.{Parsed, Refused as NotParsed}
+use Rattle.entries.specs.Parse.{Parse}
 use Rattle.entries.specs.Cursors.{Ready, number_at, refused_at, expected}
 use Rattle.entries.specs.CursorLaws.{ready-place}
 use Rattle.entries.specs.Reads.{Reads}
@@ -27,7 +28,7 @@ use Rattle.parser.specs.declared.Line.TheVariants.{Parameters, Definitions, Decl
 use Rattle.parser.specs.Spelling.{Spells}
 use Rattle.parser.specs.Lines.{Item, line_of, flat_of}
 use Rattle.parser.specs.Steps.{lines_end, lines-refused, lines_more, lines-last}
-use Rattle.parser.proofs.Laws.Rows.{accepted, refusal, took_as, reads-done, reads-refused}
+use Rattle.parser.proofs.Laws.Rows.{accepted, was-refused, took_as, reads-done, reads-refused}
 use Rattle.parser.proofs.Laws.Passing.{Next, here, elsewhere, inside, past-ready, rest-past, took_past, reads-behind}
 use Rattle.parser.proofs.Laws.Loops.{Listing, listing_start, listing-more, going-refused, going_done, going-tail}
 
@@ -72,7 +73,7 @@ module _ (l : Line) where
     tokens-behind : behind (suc h.fuel) (drop d.at ts) ≡ lines_of (suc h.fuel) (line_of l) (drop e.at ts)
     tokens-behind = ap (lines_of (suc h.fuel) (line_of l)) (rest-past ts b)
 
-    pub lines-close : {f : Cursor} → number_at v e ≡ fixed "}" → Next e f → Reads ts w v s (each (flat_of l)) x (Parsed f)
+    pub lines-close : {f : Cursor} → number_at v e ≡ fixed "}" → Next e f → Reads ts w v s (each (flat_of l)) x (Ok f)
     lines-close k g =
         going_done h.going (kept_same v d.out) []
         (tokens-behind ∙ lines_end (line_of l) h.fuel (drop e.at ts) (here behind-ready "}" refl k) ∙ ap (λ us. Done ([], us)) (rest-past ts g))
@@ -82,10 +83,10 @@ module _ (l : Line) where
       unclosed : next "}" (rest (drop d.at ts)) ≡ false
       unclosed = ap (next "}") (rest-past ts b) ∙ elsewhere behind-ready "}" refl more
 
-      pub lines-stop : {n p : ℕ} → q ≡ NotParsed n p → Reads ts w z s (each (flat_of l)) x q
-      lines-stop m = going-refused h.going r.kept m (lines-refused (line_of l) h.fuel (rest (drop d.at ts)) unclosed (refusal m r))
+      pub lines-stop : {n p : ℕ} → q ≡ Err (refusal n p) → Reads ts w z s (each (flat_of l)) x q
+      lines-stop m = going-refused h.going r.kept m (lines-refused (line_of l) h.fuel (rest (drop d.at ts)) unclosed (was-refused m r))
 
-      module _ {f : Cursor} (m : q ≡ Parsed f) where
+      module _ {f : Cursor} (m : q ≡ Ok f) where
         pub lines-tail : {y : Parse} → (number_at z f ≡ fixed ";" → ⊥) → y ≡ expected z f (fixed "}") → Reads ts w z s (each (flat_of l)) x y
         lines-tail {y} k g =
             let a = accepted m r in
@@ -108,7 +109,7 @@ module _ (l : Line) where
   module _ {ts : Tokens} {w : List ℕ} {c : Cursor} (ready : Ready ts w c) where
     pub block_refused : {y : Parse} → (number_at w c ≡ fixed "{" → ⊥) → y ≡ refused_at w c → Reads ts w w c (each (flat_of l)) (block_of (line_of l) (drop c.at ts)) y
     block_refused k e =
-        reads-refused (e ∙ ap (NotParsed 4) (ready-place ready)) (bind_refused _ _ _ _ (leave (next "{" (drop c.at ts)) _ _ (elsewhere ready "{" refl k))) (kept_same w c.out)
+        reads-refused (e ∙ ap (λ (p : ℕ). Err (refusal 4 p)) (ready-place ready)) (bind_refused _ _ _ _ (leave (next "{" (drop c.at ts)) _ _ (elsewhere ready "{" refl k))) (kept_same w c.out)
 
     pub block_read : {v : List ℕ} {q : Parse} → number_at w c ≡ fixed "{" → Reads ts w v c (each (flat_of l)) (lines_of (length (rest (drop c.at ts))) (line_of l) (rest (drop c.at ts))) q
         → Reads ts w v c (each (flat_of l)) (block_of (line_of l) (drop c.at ts)) q
@@ -116,7 +117,7 @@ module _ (l : Line) where
 
     -- a subsection that may be missing
     module _ (s : String) {word : ℕ} (spells : Spells s word) where
-      pub optional-missing : (number_at w c ≡ word → ⊥) → Reads ts w w c (each (flat_of l)) (optional s (line_of l) (drop c.at ts)) (Parsed c)
+      pub optional-missing : (number_at w c ≡ word → ⊥) → Reads ts w w c (each (flat_of l)) (optional s (line_of l) (drop c.at ts)) (Ok c)
       optional-missing k =
           reads-done [] (leave (next s (drop c.at ts)) _ _ (elsewhere ready s spells.known (λ e. k (e ∙ spells.same)))) (kept_same w c.out) (took_none ready)
 

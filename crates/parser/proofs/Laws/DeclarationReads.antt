@@ -1,4 +1,5 @@
 -- Declarations: a signal, a bus with its width, a bus with its enumeration; each way through their reader.
+use Rattle.std.specs.Prelude.{Ok, Err}
 use Prim.Native.Nat.{ℕ, ◌+◌, ◌-◌, ◌≤◌, ◌<◌}
 use native.Mathlib.Omega.{arith}
 use mathlib.Core.List.{List, []}
@@ -6,6 +7,7 @@ use mathlib.Core.Option.{some}
 use mathlib.Core.Bool.{true, false}
 use mathlib.Core.Path.{◌≡◌, refl, sym, ap, ◌∙◌, subst}
 use lib.ListN.{drop}
+use Rattle.node.specs.Returned.{refusal}
 use Rattle.language.specs.Tokens.{Token, Name, is_of}
 use Rattle.language.specs.Tree.{Declaration, OfWidth, OfType, OneSignal}
 use Rattle.language.specs.Grammar.{Tokens, Read, front, rest, next, expect_of}
@@ -19,14 +21,13 @@ use Rattle.entries.specs.Kinds as Kind
 use Rattle.entries.specs.Flat.{leaf, flat, flat_declaration}
 use Rattle.entries.specs.Stored.{put_entry}
 use Rattle.entries.specs.declared.Cursor.{Cursor}
-use Rattle.entries.specs.declared.Parse.{Parse}
-use Rattle.entries.specs.declared.Parse.TheVariants.{Parsed, Refused as NotParsed}
+use Rattle.entries.specs.Parse.{Parse}
 use Rattle.entries.specs.Cursors.{Ready, Writes, number_at, emitted_of, expected}
 use Rattle.entries.specs.Reads.{Kept, Took, Reads}
 use Rattle.entries.specs.ReadsLaws.{kept_same, kept_then}
 use Rattle.entries.specs.TokenReads.{took_none}
 use Rattle.parser.specs.Parts.{width_of}
-use Rattle.parser.proofs.Laws.Rows.{Accepted, accepted, refusal, took_then, took-emit, writes, kept_emit, under-writes, reads-done, reads-refused}
+use Rattle.parser.proofs.Laws.Rows.{Accepted, accepted, was-refused, took_then, took-emit, writes, kept_emit, under-writes, reads-done, reads-refused}
 use Rattle.parser.proofs.Laws.LineReads.{closed}
 use Rattle.parser.proofs.Laws.Passing.{
   Next,
@@ -70,14 +71,14 @@ module _ {ts : Tokens} {w : List ℕ} {c d e : Cursor} (ready : Ready ts w c) (w
     bus-kept : Kept w v c.out
     bus-kept = subst (Kept w v) (g.out ∙ h.out) r.kept
 
-    pub bus-refused : {n p : ℕ} → q ≡ NotParsed n p → Reads ts w v c flat_declaration bus-answer q
-    bus-refused m = reads-refused m (bind_refused _ _ _ _ (ap expression to_tokens ∙ refusal m r)) bus-kept
+    pub bus-refused : {n p : ℕ} → q ≡ Err (refusal n p) → Reads ts w v c flat_declaration bus-answer q
+    bus-refused m = reads-refused m (bind_refused _ _ _ _ (ap expression to_tokens ∙ was-refused m r)) bus-kept
 
-    module _ {f : Cursor} (m : q ≡ Parsed f) where
+    module _ {f : Cursor} (m : q ≡ Ok f) where
       width : Accepted ts v e f flat (expression (drop e.at ts))
       width = accepted m r
 
-      pub bus-unclosed : {y : Parse} {n p : ℕ} → y ≡ expected v f (fixed "]") → y ≡ NotParsed n p → Reads ts w v c flat_declaration bus-answer y
+      pub bus-unclosed : {y : Parse} {n p : ℕ} → y ≡ expected v f (fixed "]") → y ≡ Err (refusal n p) → Reads ts w v c flat_declaration bus-answer y
       bus-unclosed x k =
           reads-refused k (bind_to _ _ _ (ap expression to_tokens ∙ width.read) ∙ bind_refused _ _ _ _ (expect-not width.took.ready "]" refl (stopped v f (fixed "]") x k))) bus-kept
 
@@ -94,7 +95,7 @@ module _ {ts : Tokens} {w : List ℕ} {c d e : Cursor} (ready : Ready ts w c) (w
         pub bus-writes : (c.out ≤ b.out) × Writes v b Kind.bus c.at (b.out - c.out + 1)
         bus-writes = under-writes Kind.bus c.at ready.less bus-took bus-room (omega arith) bus-near
 
-        pub bus-read : {z : List ℕ} {y : Parse} → y ≡ Parsed (emitted_of b) → z ≡ put_entry v b.out Kind.bus c.at (b.out - c.out + 1) → Reads ts w z c flat_declaration bus-answer y
+        pub bus-read : {z : List ℕ} {y : Parse} → y ≡ Ok (emitted_of b) → z ≡ put_entry v b.out Kind.bus c.at (b.out - c.out + 1) → Reads ts w z c flat_declaration bus-answer y
         bus-read =
             closed Kind.bus c.at (some (front (drop c.at ts))) (OfWidth (front (drop c.at ts)) width.value) ready
             (bind_to _ _ _ (ap expression to_tokens ∙ width.read) ∙ bind_to _ _ _ (expect-passed width.took.ready "]" refl k))
@@ -105,7 +106,7 @@ module _ {ts : Tokens} {w : List ℕ} {c : Cursor} (ready : Ready ts w c) where
   abbrev answer : Read Declaration
   answer = declaration_of (drop c.at ts)
 
-  pub declaration_name : {q : Parse} {n p : ℕ} → q ≡ expected w c (class_number Name) → q ≡ NotParsed n p → Reads ts w w c flat_declaration answer q
+  pub declaration_name : {q : Parse} {n p : ℕ} → q ≡ expected w c (class_number Name) → q ≡ Err (refusal n p) → Reads ts w w c flat_declaration answer q
   declaration_name x m = reads-refused m (bind_refused _ _ _ _ (expectOf-not ready Name refl (stopped w c (class_number Name) x m))) (kept_same w c.out)
 
   module _ {d : Cursor} (h : Passed w c d (class_number Name)) where
@@ -154,7 +155,7 @@ module _ {ts : Tokens} {w : List ℕ} {c : Cursor} (ready : Ready ts w c) where
             rw (x, y) (writes first-took.ready (omega arith) (omega (arith, typed-within, name-ready.fits.few)) (omega arith))
 
         pub declaration-typed : {v z : List ℕ} {f b : Cursor} → f ≡ emitted_of e → v ≡ put_entry w e.out Kind.named c.at 1 → b ≡ emitted_of f → z ≡ put_entry v f.out Kind.typed d.at 2
-            → Reads ts w z c flat_declaration answer (Parsed b)
+            → Reads ts w z c flat_declaration answer (Ok b)
         declaration-typed x y x' y' =
             let second =
             took-emit Kind.typed d.at 2 (some (front (drop d.at ts))) ready.less first-took (omega (arith, h.next.at, h.next.out, g.at, g.out)) (omega arith)
@@ -171,7 +172,7 @@ module _ {ts : Tokens} {w : List ℕ} {c : Cursor} (ready : Ready ts w c) where
         pub signal-writes : Writes w d Kind.signal c.at 1
         signal-writes = writes name-ready (omega arith) (omega (arith, name-within, ready.fits.few)) (omega arith)
 
-        pub declaration-signal : {v : List ℕ} {e : Cursor} → e ≡ emitted_of d → v ≡ put_entry w d.out Kind.signal c.at 1 → Reads ts w v c flat_declaration answer (Parsed e)
+        pub declaration-signal : {v : List ℕ} {e : Cursor} → e ≡ emitted_of d → v ≡ put_entry w d.out Kind.signal c.at 1 → Reads ts w v c flat_declaration answer (Ok e)
         declaration-signal x y =
             let own =
             took-emit Kind.signal c.at 1 (some (front (drop c.at ts))) ready.less (took_passed (took_none ready) h (omega arith)) (omega (arith, h.next.at, h.next.out)) (omega arith)

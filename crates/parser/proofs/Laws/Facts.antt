@@ -1,4 +1,5 @@
 -- What INFO says, from the numbers of the words that say it.
+use Rattle.std.specs.Prelude.{Ok, Err}
 use Prim.Native.Nat.{ℕ, ◌+◌, ◌-◌}
 use native.Mathlib.Omega.{arith}
 use mathlib.Core.List.{List, []}
@@ -7,6 +8,8 @@ use mathlib.Core.Path.{◌≡◌, refl, sym, ap, ◌∙◌, subst}
 use lib.Dec.{eqb}
 use lib.ListN.{drop}
 use borrow.Author.Tests.{eqb-true}
+use Rattle.node.specs.declared.Refusal.{Refusal}
+use Rattle.node.specs.Returned.{Returned}
 use Rattle.node.specs.Result.{Result, Done, ◌>>=◌}
 use Rattle.node.proofs.ResultLaws.{not_done, bind_done, bind_to}
 use Rattle.language.specs.Bytes.{if◌then◌otherwise◌}
@@ -15,22 +18,23 @@ use Rattle.language.specs.Grammar.{Tokens, Read, front, rest, stop, next, expect
 use Rattle.language.specs.Sections.{model_of, strict_of, info_end}
 use Rattle.lexer.specs.Numbers.{fixed}
 use Rattle.entries.specs.declared.Cursor.{Cursor}
-use Rattle.entries.specs.declared.Parse.{Parse}
-use Rattle.entries.specs.declared.Parse.TheVariants.{Parsed, Refused as NotParsed}
+use Rattle.entries.specs.Parse.{Parse}
 use Rattle.entries.specs.Cursors.{Ready, number_at, place_at}
 use Rattle.entries.specs.CursorLaws.{ready-place}
 use Rattle.entries.specs.TokenReads.{next_number_lem}
 use Rattle.parser.specs.declared.Facts.{Facts}
-use Rattle.parser.specs.declared.Informed.{Informed}
 use Rattle.parser.specs.Information.{pair_of, to_semantics, to_target, closing_of, Info, information_of}
 use Rattle.language.specs.Models.{model_code}
-use Rattle.parser.specs.Outlines.{told_of, Informs}
-use Rattle.parser.proofs.Laws.Rows.{Accepted, accepted, refusal}
+use Rattle.parser.specs.Outlines.{told_of, behind, Informs}
+use Rattle.parser.proofs.Laws.Rows.{Accepted, accepted}
 use Rattle.parser.proofs.Laws.Skims.{Skims, skim_then, skim_map}
 
 -- two answers that are the same
 done-value : {A B : Type 0} {a b : A} {u v : B} → ◌≡◌ {A = Result (A × B)} (Done (a, u)) (Done (b, v)) → a ≡ b
 done-value {A} {B} {a} {b} {u} {v} e = let p : ◌≡◌ {A = A × B} (a, u) (b, v) = cc in ap (λ z. z.0) p
+
+ok-value : {A B : Type 0} {a b : A} {u v : B} → ◌≡◌ {A = Returned (A × B)} (Ok (a, u)) (Ok (b, v)) → a ≡ b
+ok-value {A} {B} {a} {b} {u} {v} e = let p : ◌≡◌ {A = A × B} (a, u) (b, v) = cc in ap (λ z. z.0) p
 
 module _ {ts : Tokens} {w : List ℕ} {c : Cursor} (ready : Ready ts w c) where
   -- the model's word
@@ -64,12 +68,15 @@ module _ {ts : Tokens} {w : List ℕ} {c : Cursor} (ready : Ready ts w c) where
       model_number a.1 ∙ ap (λ n. fixed "Mealy" + model_code n) (done-value b.2)
 
 -- a refusal says nothing
-pub uninformed : {ts : Tokens} {w : List ℕ} {c : Cursor} {x : Read Info} {q : Parse} {n p : ℕ} {r : Informed} → r.next ≡ q → q ≡ NotParsed n p → Skims ts w c x q → Informs ts w c x r
-uninformed {ts} {w} {c} {x} e m h = record { reads = subst (Skims ts w c x) (sym e) h; facts = λ i us y. absurd (not_done (sym (refusal m h) ∙ y)) }
+pub uninformed : {ts : Tokens} {w : List ℕ} {c : Cursor} {x : Read Info} {q : Parse} {e : Refusal} {r : Returned (Facts × Cursor)} → q ≡ Err e → r ≡ Err e → Skims ts w c x q → Informs ts w c x r
+uninformed {ts} {w} {c} {x} {e = e} {r = r} m n h = record { reads = subst (Skims ts w c x) (m ∙ sym (ap behind n)) h; facts = λ f d i us o y. never f d (sym n ∙ o) }
+  where
+    never : (f : Facts) (d : Cursor) {B : Type 0} → ◌≡◌ {A = Returned (Facts × Cursor)} (Err e) (Ok (f, d)) → B
+    never f d z = absurd (cc)
 
-module _ {ts : Tokens} {w : List ℕ} {c d e f : Cursor} {q₁ q₂ q₃ q₄ : Parse} (r₁ : Skims ts w c (to_semantics (drop c.at ts)) q₁) (m₁ : q₁ ≡ Parsed d)
-    (r₂ : Skims ts w d (model_of (drop d.at ts)) q₂) (m₂ : q₂ ≡ Parsed e)
-    (r₃ : Skims ts w e (to_target (drop e.at ts)) q₃) (m₃ : q₃ ≡ Parsed f) (r₄ : Skims ts w f (closing_of (drop f.at ts)) q₄) where
+module _ {ts : Tokens} {w : List ℕ} {c d e f : Cursor} {q₁ q₂ q₃ q₄ : Parse} (r₁ : Skims ts w c (to_semantics (drop c.at ts)) q₁) (m₁ : q₁ ≡ Ok d)
+    (r₂ : Skims ts w d (model_of (drop d.at ts)) q₂) (m₂ : q₂ ≡ Ok e)
+    (r₃ : Skims ts w e (to_target (drop e.at ts)) q₃) (m₃ : q₃ ≡ Ok f) (r₄ : Skims ts w f (closing_of (drop f.at ts)) q₄) where
   abbrev answer : Read Info
   answer = information_of (drop c.at ts)
 
@@ -78,7 +85,7 @@ module _ {ts : Tokens} {w : List ℕ} {c d e f : Cursor} {q₁ q₂ q₃ q₄ : 
       skim_then r₁ _ m₁ (λ a. skim_then r₂ _ m₂ (λ m. skim_then r₃ _ m₃ (λ s.
       skim_map (accepted m₃ r₃).took.ready (λ n. record { semantics = m; strict = s; target = n; target_word = front (drop f.at ts) }) r₄)))
 
-  module _ {g : Cursor} (m₄ : q₄ ≡ Parsed g) where
+  module _ {g : Cursor} (m₄ : q₄ ≡ Ok g) where
     semantics : Accepted ts w d e (λ m. []) (model_of (drop d.at ts))
     semantics = accepted m₂ r₂
 
@@ -89,13 +96,13 @@ module _ {ts : Tokens} {w : List ℕ} {c d e f : Cursor} {q₁ q₂ q₃ q₄ : 
     unfolding said
     said_read = bind_to _ _ _ (accepted m₁ r₁).read ∙ bind_to _ _ _ semantics.read ∙ bind_to _ _ _ (accepted m₃ r₃).read ∙ bind_to _ _ _ (accepted m₄ r₄).read
 
-    pub informed : {k k' p : ℕ} {b : Bool} {r : Informed} → k ≡ number_at w d → b ≡ eqb (number_at w e) (fixed ",") → k' ≡ number_at w f → p ≡ place_at w f →
-        r.next ≡ q₄ → r.facts ≡ record { semantics = k - fixed "Mealy"; strict = b; target = k' - fixed "Mealy"; place = p } → Informs ts w c answer r
+    pub informed : {k k' p : ℕ} {b : Bool} {r : Returned (Facts × Cursor)} → k ≡ number_at w d → b ≡ eqb (number_at w e) (fixed ",") → k' ≡ number_at w f → p ≡ place_at w f →
+        r ≡ Ok (record { semantics = k - fixed "Mealy"; strict = b; target = k' - fixed "Mealy"; place = p }, g) → Informs ts w c answer r
     unfolding said
-    informed {k} {k'} {p} {b} {r} x y z u n o =
+    informed {k} {k'} {p} {b} {r} x y z u n =
         record {
-          reads = subst (Skims ts w c answer) (sym n) all_read;
-          facts = λ i us e. o ∙ facts ∙ ap told_of (done-value (sym said_read ∙ e));
+          reads = subst (Skims ts w c answer) (m₄ ∙ sym (ap behind n)) all_read;
+          facts = λ f d i us o e. ok-value (sym o ∙ n) ∙ facts ∙ ap told_of (done-value (sym said_read ∙ e));
         }
       where
         made : ℕ → Bool → ℕ → ℕ → Facts

@@ -1,4 +1,5 @@
 -- The parts of INFO: each way through their readers.
+use Rattle.std.specs.Prelude.{Ok, Err}
 use Prim.Native.Nat.{ℕ, zero, suc, ◌≤◌, ◌<◌}
 use Prim.Native.String.{String}
 use native.Mathlib.Omega.{arith}
@@ -6,6 +7,7 @@ use mathlib.Core.List.{List, []}
 use mathlib.Core.Bool.{Bool, true, false}
 use mathlib.Core.Path.{◌≡◌, refl, sym, ap, ◌∙◌}
 use lib.ListN.{length, drop, length-drop}
+use Rattle.node.specs.Returned.{refusal}
 use Rattle.node.specs.Result.{Done, ◌>>=◌}
 use Rattle.node.proofs.ResultLaws.{bind_again}
 use Rattle.language.specs.Bytes.{if◌then◌otherwise◌}
@@ -16,15 +18,14 @@ use Rattle.language.specs.Sections.{described, model_of, strict_of, tag_of, tags
 use Rattle.language.proofs.Laws.Basics.Tests.{pick, leave}
 use Rattle.lexer.specs.Numbers.{fixed, class_number}
 use Rattle.entries.specs.declared.Cursor.{Cursor}
-use Rattle.entries.specs.declared.Parse.{Parse}
-use Rattle.entries.specs.declared.Parse.TheVariants.{Parsed, Refused as NotParsed}
+use Rattle.entries.specs.Parse.{Parse}
 use Rattle.entries.specs.Cursors.{Ready, number_at, expected}
 use Rattle.entries.specs.Reads.{Took}
 use Rattle.entries.specs.ReadsLaws.{kept_same}
 use Rattle.entries.specs.TokenReads.{took_none}
 use Rattle.parser.specs.Information.{pair_of}
 use Rattle.parser.specs.Steps.{tags_refused, tags-more, tags-last}
-use Rattle.parser.proofs.Laws.Rows.{accepted, refusal, took_then, reads-done, reads-refused}
+use Rattle.parser.proofs.Laws.Rows.{accepted, was-refused, took_then, reads-done, reads-refused}
 use Rattle.parser.proofs.Laws.Passing.{Next, here, elsewhere, class-here, class-elsewhere, inside, past-ready, rest-past, took_past, reads-behind}
 use Rattle.parser.proofs.Laws.Loops.{left_some}
 use Rattle.parser.proofs.Laws.Skims.{Skims, skims_as, skim_map, expect_spelt, expect-class}
@@ -41,11 +42,11 @@ valued false us = refl
 module _ {ts : Tokens} {w : List ℕ} {c : Cursor} (ready : Ready ts w c) where
   -- a token that decides by itself
   module _ {A : Type 0} {x : Read A} {d : Cursor} (within : c.at < c.count) (n : Next c d) where
-    past : (a : A) → x ≡ Done (a, rest (drop c.at ts)) → Skims ts w c x (Parsed d)
+    past : (a : A) → x ≡ Done (a, rest (drop c.at ts)) → Skims ts w c x (Ok d)
     past a e = reads-done a (e ∙ ap (λ us. Done (a, us)) (rest-past ts n)) (kept_same w c.out) (took_past (took_none ready) n within)
 
   -- the model
-  pub model_first : {d : Cursor} → number_at w c ≡ fixed "Mealy" → Next c d → Skims ts w c (model_of (drop c.at ts)) (Parsed d)
+  pub model_first : {d : Cursor} → number_at w c ≡ fixed "Mealy" → Next c d → Skims ts w c (model_of (drop c.at ts)) (Ok d)
   model_first k n = past (inside ready k (omega arith)) n Mealy (pick (next "Mealy" (drop c.at ts)) _ _ (here ready "Mealy" refl k))
 
   pub model_second : {q : Parse} → (number_at w c ≡ fixed "Mealy" → ⊥) → q ≡ expected w c (fixed "Moore") → Skims ts w c (model_of (drop c.at ts)) q
@@ -54,14 +55,14 @@ module _ {ts : Tokens} {w : List ℕ} {c : Cursor} (ready : Ready ts w c) where
       (skim_map ready (λ t. Moore) (expect_spelt ready "Moore" (record { known = refl; same = refl }) e))
 
   -- a tag
-  pub tag_first : {d : Cursor} → number_at w c ≡ class_number Name → Next c d → Skims ts w c (tag_of (drop c.at ts)) (Parsed d)
+  pub tag_first : {d : Cursor} → number_at w c ≡ class_number Name → Next c d → Skims ts w c (tag_of (drop c.at ts)) (Ok d)
   tag_first k n = past (inside ready k (omega arith)) n (front (drop c.at ts)) (pick (is_of Name (front (drop c.at ts))) _ _ (class-here ready Name refl k))
 
   pub tag_second : {q : Parse} → (number_at w c ≡ class_number Name → ⊥) → q ≡ expected w c (class_number Quoted) → Skims ts w c (tag_of (drop c.at ts)) q
   tag_second k e = skims_as (leave (is_of Name (front (drop c.at ts))) _ _ (class-elsewhere ready Name refl k)) (expect-class ready Quoted refl (omega arith) e)
 
   -- `, Strict`
-  pub strict_none : (number_at w c ≡ fixed "," → ⊥) → Skims ts w c (strict_of (drop c.at ts)) (Parsed c)
+  pub strict_none : (number_at w c ≡ fixed "," → ⊥) → Skims ts w c (strict_of (drop c.at ts)) (Ok c)
   strict_none k = reads-done false (leave (next "," (drop c.at ts)) _ _ (elsewhere ready "," refl k)) (kept_same w c.out) (took_none ready)
 
   pub strict_some : {d : Cursor} {q : Parse} → number_at w c ≡ fixed "," → Next c d → q ≡ expected w d (fixed "Strict") → Skims ts w c (strict_of (drop c.at ts)) q
@@ -96,11 +97,11 @@ tagging_start {ts} {w} {s} ready = go (length (drop s.at ts)) refl
     go (suc n) e = record { fuel = n; enough = omega arith; answer = ap (λ k. tags_of k (drop s.at ts)) e; took = took_none ready }
 
 module _ {x : Read Token} {ts : Tokens} {w : List ℕ} {s d : Cursor} (h : Tagging x ts w s d) {q : Parse} (r : Skims ts w d (tag_of (drop d.at ts)) q) where
-  pub tags_stop : {n p : ℕ} → q ≡ NotParsed n p → Skims ts w s x q
-  tags_stop m = reads-refused m (h.answer ∙ tags_refused h.fuel (drop d.at ts) (refusal m r)) (kept_same w s.out)
+  pub tags_stop : {n p : ℕ} → q ≡ Err (refusal n p) → Skims ts w s x q
+  tags_stop m = reads-refused m (h.answer ∙ tags_refused h.fuel (drop d.at ts) (was-refused m r)) (kept_same w s.out)
 
-  module _ {e : Cursor} (m : q ≡ Parsed e) where
-    pub tags-end : (number_at w e ≡ fixed "," → ⊥) → Skims ts w s x (Parsed e)
+  module _ {e : Cursor} (m : q ≡ Ok e) where
+    pub tags-end : (number_at w e ≡ fixed "," → ⊥) → Skims ts w s x (Ok e)
     tags-end k =
         let a = accepted m r in
         reads-done a.value (h.answer ∙ tags-last h.fuel (drop d.at ts) a.value (drop e.at ts) a.read (elsewhere a.took.ready "," refl k)) (kept_same w s.out)

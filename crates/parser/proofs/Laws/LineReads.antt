@@ -1,10 +1,12 @@
 -- A name with its value, and a formula: each way through their readers.
+use Rattle.std.specs.Prelude.{Ok, Err}
 use Prim.Native.Nat.{ℕ, ◌+◌, ◌-◌, ◌≤◌, ◌<◌}
 use native.Mathlib.Omega.{arith}
 use mathlib.Core.List.{List, []}
 use mathlib.Core.Option.{none, some}
 use mathlib.Core.Path.{◌≡◌, refl, sym, ap, ◌∙◌, subst}
 use lib.ListN.{drop}
+use Rattle.node.specs.Returned.{refusal}
 use Rattle.language.specs.Tokens.{Name}
 use Rattle.language.specs.Tree.{Parameter, Defined}
 use Rattle.language.specs.Grammar.{Tokens, Read, front, rest, next}
@@ -18,14 +20,13 @@ use Rattle.entries.specs.Kinds as Kind
 use Rattle.entries.specs.Flat.{Entry, under, flat, flat_line, flat_definition}
 use Rattle.entries.specs.Stored.{put_entry, Keeps}
 use Rattle.entries.specs.declared.Cursor.{Cursor}
-use Rattle.entries.specs.declared.Parse.{Parse}
-use Rattle.entries.specs.declared.Parse.TheVariants.{Parsed, Refused as NotParsed}
+use Rattle.entries.specs.Parse.{Parse}
 use Rattle.entries.specs.Cursors.{Ready, Writes, number_at, emitted_of, expected}
 use Rattle.entries.specs.Reads.{Kept, Took, Reads}
 use Rattle.entries.specs.ReadsLaws.{kept_same, kept_then}
 use Rattle.entries.specs.TokenReads.{took_none}
 use Rattle.parser.specs.Parts.{flat_valued}
-use Rattle.parser.proofs.Laws.Rows.{Accepted, accepted, refusal, took_then, took_as, kept_emit, took-under, under-writes, reads-done, reads-refused, reads-tail}
+use Rattle.parser.proofs.Laws.Rows.{Accepted, accepted, was-refused, took_then, took_as, kept_emit, took-under, under-writes, reads-done, reads-refused, reads-tail}
 use Rattle.parser.proofs.Laws.Passing.{
   Next,
   Passed,
@@ -49,7 +50,7 @@ use Rattle.parser.proofs.Laws.Passing.{
 pub closed : {A : Type 0} {ts : Tokens} {w v z : List ℕ} {s d : Cursor} {es : List Entry} {f : A → List Entry} {x : Read A} {q : Parse} (k j : ℕ) (t : _) (a : A) → Ready ts w s
     → x ≡ Done (a, drop d.at ts) → f a ≡ under k t es →
     Kept w v s.out → Took ts v s d es → d.out + 1 + s.at ≤ s.out + d.at → k < Kind.limit → j < max_tokens → Keeps ts j t →
-    q ≡ Parsed (emitted_of d) → z ≡ put_entry v d.out k j (d.out - s.out + 1) → Reads ts w z s f x q
+    q ≡ Ok (emitted_of d) → z ≡ put_entry v d.out k j (d.out - s.out + 1) → Reads ts w z s f x q
 closed {ts = ts} {w} {v} {z} {s} {d} {es} {f} {x} {q} k j t a ready e flats kept h room small near keeps m n =
     let u : Took ts z s (emitted_of d) (f a) =
     subst (λ y. Took ts y s (emitted_of d) (f a)) (sym n) (took_as (sym flats) (took-under k j ready.less h room small near t keeps)) in
@@ -59,11 +60,11 @@ closed {ts = ts} {w} {v} {z} {s} {d} {es} {f} {x} {q} k j t a ready e flats kept
 
 -- `name = expression`
 module _ {ts : Tokens} {w : List ℕ} {c : Cursor} (ready : Ready ts w c) {f : Parameter → List Entry} where
-  pub valued-name : {q : Parse} {n p : ℕ} → q ≡ expected w c (class_number Name) → q ≡ NotParsed n p → Reads ts w w c f (parameter_of (drop c.at ts)) q
+  pub valued-name : {q : Parse} {n p : ℕ} → q ≡ expected w c (class_number Name) → q ≡ Err (refusal n p) → Reads ts w w c f (parameter_of (drop c.at ts)) q
   valued-name x m = reads-refused m (bind_refused _ _ _ _ (expectOf-not ready Name refl (stopped w c (class_number Name) x m))) (kept_same w c.out)
 
   module _ {d : Cursor} (h : Passed w c d (class_number Name)) where
-    pub valued-sign : {q : Parse} {n p : ℕ} → q ≡ expected w d (fixed "=") → q ≡ NotParsed n p → Reads ts w w c f (parameter_of (drop c.at ts)) q
+    pub valued-sign : {q : Parse} {n p : ℕ} → q ≡ expected w d (fixed "=") → q ≡ Err (refusal n p) → Reads ts w w c f (parameter_of (drop c.at ts)) q
     valued-sign x m =
         reads-refused m (bind_to _ _ _ (expectOf-passed ready Name refl h) ∙ bind_refused _ _ _ _ (expect-not (passed-ready ready h (omega arith)) "=" refl (stopped w d (fixed "=") x m)))
         (kept_same w c.out)
@@ -75,11 +76,11 @@ module _ {ts : Tokens} {w v : List ℕ} {c d e : Cursor} (ready : Ready ts w c) 
   kept : Kept w v c.out
   kept = subst (Kept w v) (g.next.out ∙ h.next.out) r.kept
 
-  pub valued-refused : {f : Parameter → List Entry} {n p : ℕ} → q ≡ NotParsed n p → Reads ts w v c f (parameter_of (drop c.at ts)) q
+  pub valued-refused : {f : Parameter → List Entry} {n p : ℕ} → q ≡ Err (refusal n p) → Reads ts w v c f (parameter_of (drop c.at ts)) q
   valued-refused m =
-      reads-refused m (bind_to _ _ _ (expectOf-passed ready Name refl h) ∙ bind_to _ _ _ (expect-passed (passed-ready ready h (omega arith)) "=" refl g) ∙ bind_refused _ _ _ _ (refusal m r)) kept
+      reads-refused m (bind_to _ _ _ (expectOf-passed ready Name refl h) ∙ bind_to _ _ _ (expect-passed (passed-ready ready h (omega arith)) "=" refl g) ∙ bind_refused _ _ _ _ (was-refused m r)) kept
 
-  module _ {f : Cursor} (m : q ≡ Parsed f) (kind : ℕ) (small : kind < Kind.limit) where
+  module _ {f : Cursor} (m : q ≡ Ok f) (kind : ℕ) (small : kind < Kind.limit) where
     value : Accepted ts v e f flat (expression (drop e.at ts))
     value = accepted m r
 
@@ -95,7 +96,7 @@ module _ {ts : Tokens} {w v : List ℕ} {c d e : Cursor} (ready : Ready ts w c) 
     pub valued-writes : (c.out ≤ f.out) × Writes v f kind c.at (f.out - c.out + 1)
     valued-writes = under-writes kind c.at ready.less took room small near
 
-    pub valued_read : {z : List ℕ} {y : Parse} → y ≡ Parsed (emitted_of f) → z ≡ put_entry v f.out kind c.at (f.out - c.out + 1)
+    pub valued_read : {z : List ℕ} {y : Parse} → y ≡ Ok (emitted_of f) → z ≡ put_entry v f.out kind c.at (f.out - c.out + 1)
         → Reads ts w z c (flat_valued kind) (parameter_of (drop c.at ts)) y
     valued_read =
         closed kind c.at (some (front (drop c.at ts))) (record { name = front (drop c.at ts); value = value.value }) ready
@@ -107,10 +108,10 @@ module _ {ts : Tokens} {w v : List ℕ} {c d : Cursor} (ready : Ready ts w c) (w
   formula-kept : Kept w v c.out
   formula-kept = subst (Kept w v) h.out r.kept
 
-  pub formula-refused : {n p : ℕ} → q ≡ NotParsed n p → Reads ts w v c flat_line (expression (rest (drop c.at ts))) q
-  formula-refused m = reads-refused m (ap expression (rest-past ts h) ∙ refusal m r) formula-kept
+  pub formula-refused : {n p : ℕ} → q ≡ Err (refusal n p) → Reads ts w v c flat_line (expression (rest (drop c.at ts))) q
+  formula-refused m = reads-refused m (ap expression (rest-past ts h) ∙ was-refused m r) formula-kept
 
-  module _ {e : Cursor} (m : q ≡ Parsed e) where
+  module _ {e : Cursor} (m : q ≡ Ok e) where
     formula : Accepted ts v d e flat (expression (drop d.at ts))
     formula = accepted m r
 
@@ -123,7 +124,7 @@ module _ {ts : Tokens} {w v : List ℕ} {c d : Cursor} (ready : Ready ts w c) (w
     pub formula-writes : (c.out ≤ e.out) × Writes v e Kind.line 0 (e.out - c.out + 1)
     formula-writes = under-writes Kind.line 0 ready.less formula-took formula-room (omega arith) (omega arith)
 
-    pub formula-read : {z : List ℕ} {y : Parse} → y ≡ Parsed (emitted_of e) → z ≡ put_entry v e.out Kind.line 0 (e.out - c.out + 1) → Reads ts w z c flat_line (expression (rest (drop c.at ts))) y
+    pub formula-read : {z : List ℕ} {y : Parse} → y ≡ Ok (emitted_of e) → z ≡ put_entry v e.out Kind.line 0 (e.out - c.out + 1) → Reads ts w z c flat_line (expression (rest (drop c.at ts))) y
     formula-read =
         closed Kind.line 0 none formula.value ready (ap expression (rest-past ts h) ∙ formula.read) refl formula-kept formula-took formula-room (omega arith) (omega arith) tt
 

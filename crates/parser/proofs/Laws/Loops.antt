@@ -1,16 +1,17 @@
 -- Loops that read a list: what the definition answers is what it answers on the tokens that are left, with the elements read so far put before. Each turn takes a token, so
 -- the definition's fuel, the number of tokens at first, is enough.
+use Rattle.std.specs.Prelude.{Ok, Err}
 use Prim.Native.Nat.{ℕ, zero, suc, ◌+◌, ◌≤◌, ◌<◌}
 use native.Mathlib.Omega.{arith}
 use mathlib.Core.List.{List, [], ◌∷◌, ◌++◌, append-nil, append_assoc}
 use mathlib.Core.Path.{◌≡◌, refl, sym, ap, ◌∙◌}
 use lib.ListN.{length, drop, length-drop}
+use Rattle.node.specs.Returned.{refusal}
 use Rattle.node.specs.Result.{Done, Refused, ◌>>=◌}
 use Rattle.language.specs.Grammar.{Tokens, Read}
 use Rattle.entries.specs.Flat.{Entry, each}
 use Rattle.entries.specs.declared.Cursor.{Cursor}
-use Rattle.entries.specs.declared.Parse.{Parse}
-use Rattle.entries.specs.declared.Parse.TheVariants.{Parsed, Refused as NotParsed}
+use Rattle.entries.specs.Parse.{Parse}
 use Rattle.entries.specs.Cursors.{Ready, Readied}
 use Rattle.entries.specs.Reads.{Kept, Took, Reads, no_entries}
 use Rattle.entries.specs.ReadsLaws.{kept_same, kept_then, ready-kept}
@@ -48,14 +49,14 @@ module _ {A : Type 0} {g : A → List Entry} {ts : Tokens} where
       kept : Kept w z s.out
       kept = kept_then grown h.kept k
 
-      pub going-refused : {q : Parse} {n p : ℕ} → q ≡ NotParsed n p → now ≡ Refused n p → Reads ts w z s (each g) x q
+      pub going-refused : {q : Parse} {n p : ℕ} → q ≡ Err (refusal n p) → now ≡ Refused n p → Reads ts w z s (each g) x q
       going-refused m e = reads-refused m (h.answer ∙ onto-refused h.so_far e) kept
 
-      pub going_done : {e : Cursor} (ys : List A) → now ≡ Done (ys, drop e.at ts) → Took ts z d e (each g ys) → Reads ts w z s (each g) x (Parsed e)
+      pub going_done : {e : Cursor} (ys : List A) → now ≡ Done (ys, drop e.at ts) → Took ts z d e (each g ys) → Reads ts w z s (each g) x (Ok e)
       going_done ys e t =
           reads-done (h.so_far ++ ys) (h.answer ∙ onto-done h.so_far e) kept (took_as (sym (each_append g h.so_far ys)) (took_then h.took k t))
 
-      pub going-last : {e : Cursor} (y : A) → now ≡ Done (y ∷ [], drop e.at ts) → Took ts z d e (g y) → Reads ts w z s (each g) x (Parsed e)
+      pub going-last : {e : Cursor} (y : A) → now ≡ Done (y ∷ [], drop e.at ts) → Took ts z d e (g y) → Reads ts w z s (each g) x (Ok e)
       going-last y e t = going_done (y ∷ []) e (took_as (each-one g y) t)
 
       -- what is left is read as a whole

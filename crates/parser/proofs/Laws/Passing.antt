@@ -1,4 +1,5 @@
 -- One token, by the number that the code sees: the grammar's tests of it, and the cursor past it.
+use Rattle.std.specs.Prelude.{Ok, Err}
 use Prim.Native.Nat.{ℕ, ◌+◌, ◌-◌, ◌<◌}
 use Prim.Native.String.{String}
 use native.Mathlib.Omega.{arith}
@@ -9,6 +10,9 @@ use mathlib.Core.Path.{◌≡◌, refl, sym, ap, ◌∙◌, subst}
 use lib.Dec.{eqb}
 use lib.ListN.{drop}
 use borrow.Author.Tests.{eq-eqb, ne_eqb, eqb-true, eqb-false}
+use Rattle.node.specs.declared.Refusal.{Refusal}
+use Rattle.node.specs.Returned.{refusal}
+use Rattle.node.proofs.ReturnedLaws.{same-refusal}
 use Rattle.node.specs.Result.{Done, Refused}
 use Rattle.language.specs.Bytes.{ascii, is_one_of}
 use Rattle.language.specs.Tokens.{Class, Token, is_of}
@@ -20,8 +24,7 @@ use Rattle.language.specs.Limits.{max_tokens}
 use Rattle.entries.specs.Flat.{Entry}
 use Rattle.entries.specs.Stored.{Keeps}
 use Rattle.entries.specs.declared.Cursor.{Cursor}
-use Rattle.entries.specs.declared.Parse.{Parse}
-use Rattle.entries.specs.declared.Parse.TheVariants.{Parsed, Refused as NotParsed}
+use Rattle.entries.specs.Parse.{Parse}
 use Rattle.entries.specs.Cursors.{Ready, Readied, number_at, place_at, next_of, refused_at, expected}
 use Rattle.entries.specs.CursorLaws.{ready-place, ready-next, before-end, drop-next, expected-here, expected-not}
 use Rattle.entries.specs.Reads.{Onward, Took, Reads}
@@ -45,16 +48,16 @@ pub record Passed (w : List ℕ) (c d : Cursor) (k : ℕ) : Type 0 where
   pub token : number_at w c ≡ k
   pub next : Next c d
 
-pub passed : (w : List ℕ) (c : Cursor) (k : ℕ) {q : Parse} {d : Cursor} → q ≡ expected w c k → q ≡ Parsed d → Passed w c d k
+pub passed : (w : List ℕ) (c : Cursor) (k : ℕ) {q : Parse} {d : Cursor} → q ≡ expected w c k → q ≡ Ok d → Passed w c d k
 passed w c k {q} {d} f e = go (eqb (number_at w c) k) refl
   where
     go : (b : Bool) → eqb (number_at w c) k ≡ b → Passed w c d k
     go true t =
         let same : number_at w c ≡ k = eqb-true (number_at w c) k t in
-        let z : Parsed d ≡ Parsed (next_of c) = sym e ∙ f ∙ expected-here w c k same in
+        let z : ◌≡◌ {A = Parse} (Ok d) (Ok (next_of c)) = sym e ∙ f ∙ expected-here w c k same in
         record { token = same; next = next_of_lem (cc) }
     go false t =
-        let z : Parsed d ≡ refused_at w c = sym e ∙ f ∙ expected-not w c k (eqb-false (number_at w c) k t) in
+        let z : ◌≡◌ {A = Parse} (Ok d) (refused_at w c) = sym e ∙ f ∙ expected-not w c k (eqb-false (number_at w c) k t) in
         let y : ◌≡◌ {A = ℕ} 0 1 = cc in
         absurd (omega arith)
 
@@ -63,20 +66,21 @@ pub record Stopped (w : List ℕ) (c : Cursor) (k n p : ℕ) : Type 0 where
   pub number : n ≡ 4
   pub place : p ≡ place_at w c
 
-pub stopped : (w : List ℕ) (c : Cursor) (k : ℕ) {q : Parse} {n p : ℕ} → q ≡ expected w c k → q ≡ NotParsed n p → Stopped w c k n p
+pub stopped : (w : List ℕ) (c : Cursor) (k : ℕ) {q : Parse} {n p : ℕ} → q ≡ expected w c k → q ≡ Err (refusal n p) → Stopped w c k n p
 stopped w c k {q} {n} {p} f e = go (eqb (number_at w c) k) refl
   where
     go : (b : Bool) → eqb (number_at w c) k ≡ b → Stopped w c k n p
     go true t =
-        let z : NotParsed n p ≡ Parsed (next_of c) = sym e ∙ f ∙ expected-here w c k (eqb-true (number_at w c) k t) in
+        let z : ◌≡◌ {A = Parse} (Err (refusal n p)) (Ok (next_of c)) = sym e ∙ f ∙ expected-here w c k (eqb-true (number_at w c) k t) in
         let y : ◌≡◌ {A = ℕ} 0 1 = cc in
         absurd (omega arith)
     go false t =
         let other = eqb-false (number_at w c) k t in
-        let z : NotParsed n p ≡ NotParsed 4 (place_at w c) = sym e ∙ f ∙ expected-not w c k other in
-        record { token = other; number = cc; place = cc }
+        let z : ◌≡◌ {A = Parse} (Err (refusal n p)) (Err (refusal 4 (place_at w c))) = sym e ∙ f ∙ expected-not w c k other in
+        let same = same-refusal z in
+        record { token = other; number = ap (λ (r : Refusal). r.number) same; place = ap (λ (r : Refusal). r.place) same }
 
-stopped_as : {n p q : ℕ} → n ≡ 4 → p ≡ q → ◌≡◌ {A = Read Token} (Refused 4 q) (Refused n p)
+pub stopped_as : {n p q : ℕ} → n ≡ 4 → p ≡ q → ◌≡◌ {A = Read Token} (Refused 4 q) (Refused n p)
 stopped_as e f = cc
 
 module _ {ts : Tokens} {w : List ℕ} {c : Cursor} (ready : Ready ts w c) where

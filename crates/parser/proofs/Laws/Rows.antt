@@ -1,10 +1,14 @@
 -- What was read and written from one cursor to another, put together: a part and the next, a token, an entry. An entry is written only after a token that has none.
+use Rattle.std.specs.Prelude.{Ok, Err}
 use Prim.Native.Nat.{ℕ, suc, ◌+◌, ◌-◌, ◌≤◌, ◌<◌}
 use native.Mathlib.Omega.{arith}
 use mathlib.Core.List.{List, [], ◌∷◌, ◌++◌}
 use mathlib.Core.Option.{Option}
 use mathlib.Core.Path.{◌≡◌, refl, sym, ap, ◌∙◌, subst}
 use lib.ListN.{length, drop, length-append}
+use Rattle.node.specs.declared.Refusal.{Refusal}
+use Rattle.node.specs.Returned.{refusal}
+use Rattle.node.proofs.ReturnedLaws.{same-refusal}
 use Rattle.node.specs.Result.{Done, Refused, ◌>>=◌}
 use Rattle.language.specs.Tokens.{Token}
 use Rattle.language.specs.Grammar.{Tokens, Read}
@@ -14,8 +18,7 @@ use Rattle.entries.specs.Flat.{Entry, under}
 use Rattle.entries.specs.Stored.{first_entry, entry_word, put_entry, Keeps, EntryAt, EntriesFrom}
 use Rattle.entries.specs.StoredLaws.{entry-put, entries-kept, entries-append}
 use Rattle.entries.specs.declared.Cursor.{Cursor}
-use Rattle.entries.specs.declared.Parse.{Parse}
-use Rattle.entries.specs.declared.Parse.TheVariants.{Parsed, Refused as NotParsed}
+use Rattle.entries.specs.Parse.{Parse}
 use Rattle.entries.specs.Cursors.{Ready, Writes, next_of, emitted_of}
 use Rattle.entries.specs.CursorLaws.{ready-next}
 use Rattle.entries.specs.Reads.{Kept, Took, Outcome, Reads}
@@ -99,11 +102,11 @@ pub record Accepted {A : Type 0} (ts : Tokens) (v : List ℕ) (s d : Cursor) (f 
   pub read : x ≡ Done (value, drop d.at ts)
   pub took : Took ts v s d (f value)
 
-never : {d : Cursor} {n p : ℕ} → Parsed d ≡ NotParsed n p → ⊥
+never : {d : Cursor} {n p : ℕ} → ◌≡◌ {A = Parse} (Ok d) (Err (refusal n p)) → ⊥
 never e = let z : ◌≡◌ {A = ℕ} 0 1 = cc in omega arith
 
 module _ {A : Type 0} {ts : Tokens} {w v : List ℕ} {s : Cursor} {f : A → List Entry} {x : Read A} where
-  pub accepted : {q : Parse} {d : Cursor} → q ≡ Parsed d → Reads ts w v s f x q → Accepted ts v s d f x
+  pub accepted : {q : Parse} {d : Cursor} → q ≡ Ok d → Reads ts w v s f x q → Accepted ts v s d f x
   accepted {q} {d} e g = go x refl g.says
     where
       go : (y : Read A) → x ≡ y → Outcome ts v s f y q → Accepted ts v s d f x
@@ -113,22 +116,22 @@ module _ {A : Type 0} {ts : Tokens} {w v : List ℕ} {s : Cursor} {f : A → Lis
           record { value = a; read = m ∙ ap (λ vs. Done (a, vs)) left; took = subst (λ k. Took ts v s k (f a)) same o.took }
       go (Refused n p) m o = absurd (never (sym e ∙ o))
 
-  pub refusal : {q : Parse} {n p : ℕ} → q ≡ NotParsed n p → Reads ts w v s f x q → x ≡ Refused n p
-  refusal {q} {n} {p} e g = go x refl g.says
+  pub was-refused : {q : Parse} {n p : ℕ} → q ≡ Err (refusal n p) → Reads ts w v s f x q → x ≡ Refused n p
+  was-refused {q} {n} {p} e g = go x refl g.says
     where
       go : (y : Read A) → x ≡ y → Outcome ts v s f y q → x ≡ Refused n p
       go (Done (a, us)) m o = absurd (never (sym o.parsed ∙ e))
       go (Refused n' p') m o = m ∙ same (sym o ∙ e)
         where
-          same : {i j k l : ℕ} → NotParsed i j ≡ NotParsed k l → ◌≡◌ {A = Read A} (Refused i j) (Refused k l)
-          same e = cc
+          same : {i j k l : ℕ} → ◌≡◌ {A = Parse} (Err (refusal i j)) (Err (refusal k l)) → ◌≡◌ {A = Read A} (Refused i j) (Refused k l)
+          same e = ap (λ (r : Refusal). Refused r.number r.place) (same-refusal e)
 
 -- the answer of a function by what the grammar says
 module _ {A : Type 0} {ts : Tokens} {w v : List ℕ} {s : Cursor} {f : A → List Entry} {x : Read A} where
-  pub reads-done : {d : Cursor} (a : A) → x ≡ Done (a, drop d.at ts) → Kept w v s.out → Took ts v s d (f a) → Reads ts w v s f x (Parsed d)
-  reads-done {d} a e k t = subst (λ y. Reads ts w v s f y (Parsed d)) (sym e) (record { kept = k; says = record { cursor = d; parsed = refl; left = refl; took = t } })
+  pub reads-done : {d : Cursor} (a : A) → x ≡ Done (a, drop d.at ts) → Kept w v s.out → Took ts v s d (f a) → Reads ts w v s f x (Ok d)
+  reads-done {d} a e k t = subst (λ y. Reads ts w v s f y (Ok d)) (sym e) (record { kept = k; says = record { cursor = d; parsed = refl; left = refl; took = t } })
 
-  pub reads-refused : {q : Parse} {n p : ℕ} → q ≡ NotParsed n p → x ≡ Refused n p → Kept w v s.out → Reads ts w v s f x q
+  pub reads-refused : {q : Parse} {n p : ℕ} → q ≡ Err (refusal n p) → x ≡ Refused n p → Kept w v s.out → Reads ts w v s f x q
   reads-refused {q} m e k = subst (λ y. Reads ts w v s f y q) (sym e) (record { kept = k; says = m })
 
   -- the last part's answer, refused or accepted

@@ -1,10 +1,12 @@
 -- Reading without entries: one reader after another, and a sign or word by its number.
+use Rattle.std.specs.Prelude.{Ok, Err}
 use Prim.Native.Nat.{ℕ, ◌<◌}
 use Prim.Native.String.{String}
 use mathlib.Core.List.{List}
 use mathlib.Core.Bool.{true}
 use mathlib.Core.Path.{◌≡◌, refl, sym, ap, ◌∙◌, subst}
 use lib.ListN.{drop}
+use Rattle.node.specs.Returned.{refusal}
 use Rattle.node.specs.Result.{Done, ◌>>=◌}
 use Rattle.node.proofs.ResultLaws.{bind_refused, bind_to}
 use Rattle.language.specs.Tokens.{Class}
@@ -12,26 +14,25 @@ use Rattle.language.specs.Grammar.{Tokens, Read, expect, expect_of}
 use Rattle.lexer.specs.Numbers.{class_number}
 use Rattle.lexer.specs.NumberLaws.{is_plain}
 use Rattle.entries.specs.declared.Cursor.{Cursor}
-use Rattle.entries.specs.declared.Parse.{Parse}
-use Rattle.entries.specs.declared.Parse.TheVariants.{Parsed, Refused as NotParsed}
+use Rattle.entries.specs.Parse.{Parse}
 use Rattle.entries.specs.Cursors.{Ready, expected}
 use Rattle.entries.specs.Reads.{Reads, no_entries}
 use Rattle.entries.specs.ReadsLaws.{kept_same}
 use Rattle.entries.specs.TokenReads.{took_none, expect-reads, expect_of-reads}
 use Rattle.parser.specs.Spelling.{Spells}
 use Rattle.parser.specs.Steps.{then_id}
-use Rattle.parser.proofs.Laws.Rows.{accepted, refusal, reads-refused, reads-tail}
+use Rattle.parser.proofs.Laws.Rows.{accepted, was-refused, reads-refused, reads-tail}
 
 abbrev pub Skims : {A : Type 0} → Tokens → List ℕ → Cursor → Read A → Parse → Type 0
 Skims ts w c x q = Reads ts w w c no_entries x q
 
 module _ {A B : Type 0} {ts : Tokens} {w : List ℕ} {c : Cursor} {x : Read A} {q : Parse} (r : Skims ts w c x q) (K : A × Tokens → Read B) where
   -- refused
-  pub skim_refused : {n p : ℕ} → q ≡ NotParsed n p → Skims ts w c (x >>= K) q
-  skim_refused m = reads-refused m (bind_refused _ _ _ K (refusal m r)) (kept_same w c.out)
+  pub skim_refused : {n p : ℕ} → q ≡ Err (refusal n p) → Skims ts w c (x >>= K) q
+  skim_refused m = reads-refused m (bind_refused _ _ _ K (was-refused m r)) (kept_same w c.out)
 
   -- then the next
-  pub skim_then : {d : Cursor} {q' : Parse} → q ≡ Parsed d → ((a : A) → Skims ts w d (K (a, drop d.at ts)) q') → Skims ts w c (x >>= K) q'
+  pub skim_then : {d : Cursor} {q' : Parse} → q ≡ Ok d → ((a : A) → Skims ts w d (K (a, drop d.at ts)) q') → Skims ts w c (x >>= K) q'
   skim_then m next =
       let a = accepted m r in
       reads-tail (λ b. b) (bind_to _ _ K a.read ∙ then_id (K (a.value, _))) (λ b. refl) (kept_same w c.out) a.took (next a.value)

@@ -1,4 +1,5 @@
 -- The loop over MAIN's subsections: which have stood, one turn, and the ways out. A subsection stands at most once, so the definition's fuel is enough.
+use Rattle.std.specs.Prelude.{Ok, Err}
 use Prim.Native.Nat.{ℕ, zero, suc, ◌≤◌, ◌<◌}
 use native.Mathlib.Omega.{arith}
 use mathlib.Core.List.{List, [], ◌∷◌}
@@ -9,6 +10,7 @@ use lib.Dec.{eqb}
 use lib.ListN.{length, drop, get_or, set}
 use lib.Seq.{get_or-set_same, get_or-set_other}
 use borrow.Author.Tests.{eqb-true, eqb-false}
+use Rattle.node.specs.Returned.{refusal}
 use Rattle.node.specs.Result.{Done, ◌>>=◌}
 use Rattle.node.proofs.ResultLaws.{bind_refused, bind_to}
 use Rattle.language.specs.Tree.{Subsection, Inputs, Outputs, Lines}
@@ -18,15 +20,14 @@ use Rattle.language.proofs.Laws.Basics.Tests.{pick, leave, or_left}
 use Rattle.entries.specs.Headings.{no_heading}
 use Rattle.entries.specs.Flat.{each, flat_subsection}
 use Rattle.entries.specs.declared.Cursor.{Cursor}
-use Rattle.entries.specs.declared.Parse.{Parse}
-use Rattle.entries.specs.declared.Parse.TheVariants.{Parsed, Refused as NotParsed}
+use Rattle.entries.specs.Parse.{Parse}
 use Rattle.entries.specs.Cursors.{Ready, number_at}
 use Rattle.entries.specs.CursorLaws.{ready-number, before-end}
 use Rattle.entries.specs.Reads.{Reads}
 use Rattle.entries.specs.ReadsLaws.{kept_same}
 use Rattle.entries.specs.TokenReads.{took_none}
 use Rattle.parser.specs.Headings.{row_of, heading_number, heading_code, end_of, marked}
-use Rattle.parser.proofs.Laws.Rows.{Accepted, accepted, refusal}
+use Rattle.parser.proofs.Laws.Rows.{Accepted, accepted, was-refused}
 use Rattle.parser.proofs.Laws.Loops.{Going, going_start, going-refused, going-rest, going_more}
 use Rattle.parser.proofs.Laws.HeadingRows.{below_at, heading_out, heading-most, fresh, heading_number_lem, Row, no_row, row_of_lem, left, left_less}
 
@@ -131,13 +132,13 @@ module _ {x : Read (List Subsection)} {marks : List ℕ} {ts : Tokens} {w v : Li
     word-fresh e = word ∙ ap (fresh h.before) row.is ∙ leave (seen h.before row.row.number) _ _ (unseen e)
 
     module _ (e : marked (get_or marks n 0) ≡ false) {z : List ℕ} {q : Parse} (r : Reads ts v z d flat_subsection (subsection_of row.row.heading (rest (drop d.at ts))) q) where
-      pub subsections-stop : {i p : ℕ} → q ≡ NotParsed i p → Reads ts w z s (each flat_subsection) x q
-      subsections-stop m = going-refused h.going r.kept m (step h.fuel h.before (some row.row) (drop d.at ts) (word-fresh e) ∙ bind_refused _ _ _ _ (refusal m r))
+      pub subsections-stop : {i p : ℕ} → q ≡ Err (refusal i p) → Reads ts w z s (each flat_subsection) x q
+      subsections-stop m = going-refused h.going r.kept m (step h.fuel h.before (some row.row) (drop d.at ts) (word-fresh e) ∙ bind_refused _ _ _ _ (was-refused m r))
 
-      pub subsection-further : {f : Cursor} → q ≡ Parsed f → d.at < f.at
+      pub subsection-further : {f : Cursor} → q ≡ Ok f → d.at < f.at
       subsection-further m = let a = accepted m r in omega (arith, flat_subsection_some a.value, a.took.out, a.took.onward.slack)
 
-      pub subsections-again : {f : Cursor} → n < length marks → q ≡ Parsed f → Standing x (set marks n 1) ts w z s f
+      pub subsections-again : {f : Cursor} → n < length marks → q ≡ Ok f → Standing x (set marks n 1) ts w z s f
       subsections-again {f} b m = go h.fuel refl
         where
           a : Accepted ts z d f flat_subsection (subsection_of row.row.heading (rest (drop d.at ts)))

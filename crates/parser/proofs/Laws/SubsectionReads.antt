@@ -15,7 +15,7 @@ use Rattle.entries.specs.Kinds as Kind
 use Rattle.entries.specs.Flat.{each, head, flat_declaration, flat_line, flat_subsection}
 use Rattle.entries.specs.Stored.{put_entry}
 use Rattle.entries.specs.declared.Cursor.{Cursor}
-use Rattle.entries.specs.declared.Parse.{Parse}
+use Rattle.entries.specs.Parse.{Parse}
 use Rattle.entries.specs.Cursors.{Ready, Writes, emitted_of, refused_at, expected}
 use Rattle.entries.specs.Reads.{Kept, Took, Reads}
 use Rattle.entries.specs.ReadsLaws.{kept_same, read-stop}

@@ -1,4 +1,5 @@
 -- A whole text: its first token, its sections in a row, its end, and the answer.
+use Rattle.std.specs.Prelude.{Ok, Err}
 use Prim.Native.Nat.{ℕ, ◌<◌, ◌^◌}
 use native.Mathlib.Omega.{arith}
 use mathlib.Core.List.{List, [], ◌∷◌, append_assoc}
@@ -6,8 +7,11 @@ use mathlib.Core.Bool.{Bool, true, false}
 use mathlib.Core.Path.{◌≡◌, refl, sym, ap, ap₂, ◌∙◌, subst}
 use lib.Dec.{eqb, ltb}
 use lib.ListN.{length, drop}
-use borrow.Author.Tests.{ltb-true, ltb-false, eqb-true, eq-eqb, ne_eqb}
+use borrow.Author.Tests.{ltb-true, ltb-false, eqb-true, eqb-false, eq-eqb, ne_eqb}
+use Rattle.node.specs.declared.Refusal.{Refusal}
+use Rattle.node.specs.Returned.{Returned, refusal}
 use Rattle.node.specs.Result.{Done, Refused, ◌>>=◌}
+use Rattle.node.proofs.ReturnedLaws.{same-refusal}
 use Rattle.node.proofs.ResultLaws.{bind_refused, bind_to}
 use Rattle.language.specs.Tokens.{Token, End, is_of}
 use Rattle.language.specs.Tree.{Subsection}
@@ -21,19 +25,17 @@ use Rattle.lexer.specs.StoredLaws.{number_word, offset_word}
 use Rattle.entries.specs.Flat.{each, flat_parameter, flat_definition, flat_subsection, outline}
 use Rattle.entries.specs.Stored.{EntriesFrom}
 use Rattle.entries.specs.declared.Cursor.{Cursor}
-use Rattle.entries.specs.declared.Parse.{Parse}
-use Rattle.entries.specs.declared.Parse.TheVariants.{Parsed, Refused as NotParsed}
-use Rattle.entries.specs.Cursors.{Fits, Tells, Ready, number_at, place_at, expected}
+use Rattle.entries.specs.Parse.{Parse}
+use Rattle.entries.specs.Cursors.{Fits, Tells, Ready, number_at, place_at, refused_at, expected}
 use Rattle.entries.specs.CursorLaws.{number_stored, number-end, place_stored, place_end, before-end, ready-place}
 use Rattle.entries.specs.Reads.{Kept, Reads}
 use Rattle.entries.specs.ReadsLaws.{kept_fewer}
-use Rattle.parser.specs.declared.Informed.{Informed}
+use Rattle.parser.specs.declared.Facts.{Facts}
 use Rattle.parser.specs.declared.Outline.{Outline}
-use Rattle.parser.specs.declared.Outline.TheVariants.{Accepted as Answered}
 use Rattle.parser.specs.Parts.{Globals, globals_of, flat_globals}
 use Rattle.parser.specs.Information.{information_of}
-use Rattle.parser.specs.Outlines.{Informs, sections_of, flat_sections, start_of, Answer, Outlined, not_accepted}
-use Rattle.parser.proofs.Laws.Rows.{Accepted, accepted, refusal, reads-refused, reads-tail}
+use Rattle.parser.specs.Outlines.{behind, Informs, sections_of, flat_sections, ended, start_of, Answer, Outlined}
+use Rattle.parser.proofs.Laws.Rows.{Accepted, accepted, was-refused, reads-refused, reads-tail}
 use Rattle.parser.proofs.Laws.Passing.{Passed, Stopped, stopped, passed-ready, expect-passed, expect-not, took_passed, class-here, class-elsewhere}
 use Rattle.parser.proofs.Laws.SpecParts.{spec_with, spec_parts}
 
@@ -42,24 +44,24 @@ module _ {ts : Tokens} {w v : List ℕ} {c : Cursor} {q : Parse} (r : Reads ts w
   abbrev answer : Read (Globals × List Subsection)
   answer = sections_of (drop c.at ts)
 
-  pub sections_global : {n p : ℕ} → q ≡ NotParsed n p → Reads ts w v c flat_sections answer q
-  sections_global m = reads-refused m (bind_refused _ _ _ _ (refusal m r)) r.kept
+  pub sections_global : {n p : ℕ} → q ≡ Err (refusal n p) → Reads ts w v c flat_sections answer q
+  sections_global m = reads-refused m (bind_refused _ _ _ _ (was-refused m r)) r.kept
 
-  module _ {d : Cursor} (m : q ≡ Parsed d) where
+  module _ {d : Cursor} (m : q ≡ Ok d) where
     globals : Accepted ts v c d flat_globals (globals_of (drop c.at ts))
     globals = accepted m r
 
     pub main-ready : Ready ts v d
     main-ready = globals.took.ready
 
-    pub sections-main : {y : Parse} {n p : ℕ} → y ≡ expected v d (fixed "MAIN") → y ≡ NotParsed n p → Reads ts w v c flat_sections answer y
+    pub sections-main : {y : Parse} {n p : ℕ} → y ≡ expected v d (fixed "MAIN") → y ≡ Err (refusal n p) → Reads ts w v c flat_sections answer y
     sections-main x o = reads-refused o (bind_to _ _ _ globals.read ∙ bind_refused _ _ _ _ (expect-not main-ready "MAIN" refl (stopped v d (fixed "MAIN") x o))) r.kept
 
     module _ {e : Cursor} (h : Passed v d e (fixed "MAIN")) where
       pub open-ready : Ready ts v e
       open-ready = passed-ready main-ready h (omega arith)
 
-      pub sections-open : {y : Parse} {n p : ℕ} → y ≡ expected v e (fixed "{") → y ≡ NotParsed n p → Reads ts w v c flat_sections answer y
+      pub sections-open : {y : Parse} {n p : ℕ} → y ≡ expected v e (fixed "{") → y ≡ Err (refusal n p) → Reads ts w v c flat_sections answer y
       sections-open x o =
           reads-refused o (bind_to _ _ _ globals.read ∙ bind_to _ _ _ (expect-passed main-ready "MAIN" refl h) ∙ bind_refused _ _ _ _ (expect-not open-ready "{" refl (stopped v e (fixed "{") x o)))
           r.kept
@@ -128,13 +130,13 @@ module _ {ts : Tokens} {w : List ℕ} {count end : ℕ} (fits : Fits w (start_of
         one [] = refl
         one (u ∷ us) = refl
 
-    module _ {s : Informed} (i : Informs ts w c (information_of (drop c.at ts)) s) where
-      pub info-refused : {n p : ℕ} → s.next ≡ NotParsed n p → spec_of ts ≡ Refused n p
-      info-refused m = spec_parts ts ∙ bind_to _ _ _ first_read ∙ bind_refused _ _ _ _ (refusal m i.reads)
+    module _ {s : Returned (Facts × Cursor)} (i : Informs ts w c (information_of (drop c.at ts)) s) where
+      pub info-refused : {n p : ℕ} → s ≡ Err (refusal n p) → spec_of ts ≡ Refused n p
+      info-refused m = spec_parts ts ∙ bind_to _ _ _ first_read ∙ bind_refused _ _ _ _ (was-refused (ap behind m) i.reads)
 
-      module _ {d : Cursor} (m : s.next ≡ Parsed d) where
+      module _ {f : Facts} {d : Cursor} (m : s ≡ Ok (f, d)) where
         info : Accepted ts w c d (λ x. []) (information_of (drop c.at ts))
-        info = accepted m i.reads
+        info = accepted (ap behind m) i.reads
 
         pub info-ready : Ready ts w d
         info-ready = info.took.ready
@@ -146,10 +148,10 @@ module _ {ts : Tokens} {w : List ℕ} {count end : ℕ} (fits : Fits w (start_of
           pub all-kept : Kept w v 0
           all-kept = kept_fewer (omega arith) r.kept
 
-          pub body_refused : {n p : ℕ} → q ≡ NotParsed n p → spec_of ts ≡ Refused n p
-          body_refused o = spec_parts ts ∙ bind_to _ _ _ first_read ∙ bind_to _ _ _ info.read ∙ bind_refused _ _ _ _ (refusal o r)
+          pub body_refused : {n p : ℕ} → q ≡ Err (refusal n p) → spec_of ts ≡ Refused n p
+          body_refused o = spec_parts ts ∙ bind_to _ _ _ first_read ∙ bind_to _ _ _ info.read ∙ bind_refused _ _ _ _ (was-refused o r)
 
-          module _ {e : Cursor} (o : q ≡ Parsed e) where
+          module _ {e : Cursor} (o : q ≡ Ok e) where
             body : Accepted ts v d e flat_sections (sections_of (drop d.at ts))
             body = accepted o r
 
@@ -169,20 +171,47 @@ module _ {ts : Tokens} {w : List ℕ} {count end : ℕ} (fits : Fits w (start_of
             written : outline (spec_with info.value body.value) ≡ flat_sections body.value
             written = sym (append_assoc (each flat_parameter body.value.0.0) (each flat_definition body.value.0.1) (each flat_subsection body.value.1))
 
-            pub outlined : {a : Outline} → number_at v e ≡ class_number End → a ≡ Answered e.out s.facts → Outlined ts w v a
-            outlined {a} k x =
+            -- refused behind MAIN
+            pub end_refused : {y : Parse} {n p : ℕ} → y ≡ ended v e → y ≡ Err (refusal n p) → spec_of ts ≡ Refused n p
+            end_refused {y} {n} {p} x z = go (eqb (number_at v e) 0) refl
+              where
+                go : (b : Bool) → eqb (number_at v e) 0 ≡ b → spec_of ts ≡ Refused n p
+                go true t =
+                    let u : ◌≡◌ {A = Parse} (Err (refusal n p)) (Ok e) = sym z ∙ x ∙ pick (eqb (number_at v e) 0) _ _ t in
+                    absurd (cc)
+                go false t =
+                    let u : ◌≡◌ {A = Parse} (Err (refusal n p)) (refused_at v e) = sym z ∙ x ∙ leave (eqb (number_at v e) 0) _ _ t in
+                    not_end (eqb-false (number_at v e) 0 t) ∙ ap (λ (r : Refusal). Refused r.number r.place) (sym (same-refusal u))
+
+            -- the text's end stands there
+            pub end-met : {y : Parse} {g : Cursor} → y ≡ ended v e → y ≡ Ok g → (number_at v e ≡ class_number End) × (g ≡ e)
+            end-met {y} {g} x z = go (eqb (number_at v e) 0) refl
+              where
+                go : (b : Bool) → eqb (number_at v e) 0 ≡ b → (number_at v e ≡ class_number End) × (g ≡ e)
+                go true t =
+                    let u : ◌≡◌ {A = Parse} (Ok g) (Ok e) = sym z ∙ x ∙ pick (eqb (number_at v e) 0) _ _ t in
+                    (eqb-true (number_at v e) 0 t, cc)
+                go false t =
+                    let u : ◌≡◌ {A = Parse} (Ok g) (refused_at v e) = sym z ∙ x ∙ leave (eqb (number_at v e) 0) _ _ t in
+                    absurd (cc)
+
+            pub outlined : {g : Cursor} {a : Returned Outline} → (number_at v e ≡ class_number End) × (g ≡ e) → a ≡ Ok (record { entries = g.out; facts = f }) → Outlined ts w v a
+            outlined {g} {a} k x =
                 let size : e.out ≡ length (outline (spec_with info.value body.value)) = omega (arith, out_none, body.took.out, ap length written) in
                 record {
                   kept = all-kept;
                   says =
-                      subst (λ y. Answer ts v y a) (sym (at-end k))
+                      subst (λ y. Answer ts v y a) (sym (at-end k.0))
                       (record {
-                        accepted = x ∙ ap₂ Answered size (i.facts info.value _ info.read);
+                        accepted = x ∙ ap₂ made (ap (λ (d : Cursor). d.out) k.1 ∙ size) (i.facts f d info.value _ m info.read);
                         entries = subst (EntriesFrom v ts 0) (sym written) (subst (λ n. EntriesFrom v ts n (flat_sections body.value)) out_none body.took.entries);
                         few = omega (arith, size, end-ready.less, end-ready.fits.inside, end-ready.fits.few);
                       });
                 }
+              where
+                made : ℕ → Facts → Returned Outline
+                made n f = Ok (record { entries = n; facts = f })
 
 -- a refusal
-pub outlined_refused : {ts : Tokens} {w v : List ℕ} {a : Outline} {q : Parse} {n p : ℕ} → spec_of ts ≡ Refused n p → Kept w v 0 → a ≡ not_accepted q → q ≡ NotParsed n p → Outlined ts w v a
-outlined_refused {ts} {v = v} {a} e k x m = record { kept = k; says = subst (λ y. Answer ts v y a) (sym e) (x ∙ ap not_accepted m) }
+pub outlined_refused : {ts : Tokens} {w v : List ℕ} {a : Returned Outline} {n p : ℕ} → spec_of ts ≡ Refused n p → Kept w v 0 → a ≡ Err (refusal n p) → Outlined ts w v a
+outlined_refused {ts} {v = v} {a} e k x = record { kept = k; says = subst (λ y. Answer ts v y a) (sym e) x }

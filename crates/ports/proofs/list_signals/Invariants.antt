@@ -1,8 +1,6 @@
 -- `list_signals` meets its contract: the ports from position j on are still to be listed.
-use Prim.Native.Nat.{ℕ, ◌-◌, ◌≤◌}
+use Prim.Native.Nat.{ℕ, ◌≤◌}
 use mathlib.Core.List.{List}
-use mathlib.Core.Path.{◌≡◌}
-use lib.ListN.{length}
 use Rattle.language.specs.Limits.{max_signals}
 use Rattle.language.specs.Tokens.{Token}
 use Rattle.language.specs.DeclaredNames.{Port}
@@ -11,9 +9,5 @@ use Rattle.ports.specs.ListingLaws.{Going}
 use Rattle.ports.proofs.list_signals.Given as goal
 
 abbrev pub invariant-loop-j : goal.invariant-loop-j
-invariant-loop-j l = (l.j ≤ l.count) ×
-    ((l.at ≤ max_signals) × ((length l.firsts ≡ length l.initial.firsts) × ((length l.list ≡ length l.initial.list) ×
-    ((R : Token → ℕ) (ps : List Port) → Ported R l.numbers l.offsets l.widths l.ins l.count ps → Going R l.numbers l.offsets l.widths l.ins l.count ps l.initial.firsts l.initial.list l.j l.at l.firsts l.list))))
-
-abbrev pub decreases-loop-j : goal.decreases-loop-j
-decreases-loop-j l = l.count - l.j
+invariant-loop-j l = (l.at ≤ max_signals) ×
+    ((R : Token → ℕ) (ps : List Port) → Ported R l.numbers l.offsets l.widths l.ins l.count ps → Going R l.numbers l.offsets l.widths l.ins l.count ps l.initial.firsts l.initial.list l.j l.at l.firsts l.list)

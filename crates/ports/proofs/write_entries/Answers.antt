@@ -1,16 +1,10 @@
 use mathlib.Core.Path.{refl}
-use Rattle.ports.specs.EntryRunLaws.{stores_none, stores_more, stores_all}
+use Rattle.ports.specs.EntryRunLaws.{stores_more, stores_all}
 use Rattle.ports.proofs.write_entries.Goals as goal
-
-pub loop-i-init : goal.loop-i-init
-loop-i-init c = stores_none c.args.top c.args.offset c.args.width c.args.count c.args.at _
 
 pub loop-i-preserved : goal.loop-i-preserved
 loop-i-preserved c =
     stores_more c.args.top c.args.offset c.args.width c.args.count c.args.at c.loop-i.i _ _ _ c.loop-i-test.true refl c.loop-i.invariant
-
-pub shape_of-list : goal.shape_of-list
-shape_of-list c = c.loop-i.invariant.size
 
 pub returns : goal.returns
 returns c =

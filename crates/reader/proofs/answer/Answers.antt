@@ -8,15 +8,14 @@ pub check-checked-requires : goal.check-checked-requires
 check-checked-requires c =
     (c.requires, omega arith, omega arith)
 
-pub returns-in_default : goal.returns-in_default
-returns-in_default c =
-    let refused = c.in_default.is in
-    refused-tells c.check-checked.ensures _ _ refused (c.unchecked.ensures _ _ refused)
+pub returns-in-Err : goal.returns-in-Err
+returns-in-Err c =
+    refused-tells c.check-checked.ensures _ _ c.in-Err.is c.untold.ensures
 
 pub expand_checked-counted-requires : goal.expand_checked-counted-requires
 expand_checked-counted-requires c =
-    some-parsed c.check-checked.ensures c.in-Accepted.is c.requires (omega arith) (omega arith)
+    some-parsed c.check-checked.ensures c.in-Ok.is c.requires (omega arith) (omega arith)
 
 pub returns : goal.returns
 returns c =
-    tree-tells c.check-checked.ensures c.in-Accepted.is c.expand_checked-counted.ensures
+    tree-tells c.check-checked.ensures c.in-Ok.is c.expand_checked-counted.ensures

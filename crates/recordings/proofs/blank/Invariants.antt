@@ -6,6 +6,3 @@ use Rattle.recordings.proofs.blank.Given as goal
 
 abbrev pub invariant-loop-i : goal.invariant-loop-i
 invariant-loop-i l = blank l.bytes l.from (l.to - l.from) ≡ blank l.bytes l.i (l.to - l.i)
-
-abbrev pub decreases-loop-i : goal.decreases-loop-i
-decreases-loop-i l = l.to - l.i

@@ -1,16 +1,17 @@
-use mathlib.Core.Path.{◌≡◌}
+-- `copy_row` meets its contract: what std says of a copy, index by index.
+use Prim.Native.Nat.{◌+◌, ◌-◌}
+use mathlib.Core.Path.{◌≡◌, ap, ◌∙◌}
 use native.Mathlib.Omega.{arith}
-use Rattle.rows.specs.MemoryLaws.{copied_none, copied_more}
+use lib.ListN.{get_or}
 use Rattle.rows.proofs.copy_row.Goals as goal
 
-pub loop-i-init : goal.loop-i-init
-loop-i-init c = (omega arith, copied_none _ _ _ _)
-
-pub loop-i-preserved : goal.loop-i-preserved
-loop-i-preserved c = (omega arith, copied_more _ _ _ _ c.loop-i.invariant.1 (omega arith) (omega arith) (omega arith))
-
-pub shape_of-rows : goal.shape_of-rows
-shape_of-rows c = c.loop-i.invariant.1.kept.size
-
 pub returns : goal.returns
-returns c = let e : c.loop-i.i ≡ c.args.count = omega arith in rw e at c.loop-i.invariant.1
+returns c =
+    let e = c.copy_within.ensures in
+    let a = c.args in
+    record {
+      kept = record { size = e.len; below = λ k h. e.by_index.1 k 0 h; beyond = λ k h. e.by_index.2 k 0 (omega arith) };
+      same = λ k h.
+          let at : a.from + (a.base + k - a.base) ≡ a.from + k = omega arith in
+          e.by_index.0 (a.base + k) 0 (omega arith) (omega arith) ∙ ap (λ j. get_or a.rows.now j 0) at;
+    }

@@ -1,4 +1,5 @@
 -- `shared_table::append` meets its contract: there is no room, or the index grows by one node.
+use mathlib.Core.Path.{refl}
 use native.Mathlib.Omega.{arith}
 use lib.ListN.{length-set}
 use Rattle.shared_table.specs.GrowthLaws.{grown}
@@ -6,10 +7,10 @@ use Rattle.shared_table.specs.PutLaws.{sought_inside, puts-many, puts-short, put
 use Rattle.shared_table.proofs.append.Goals as goal
 
 pub returns-then-next-gt-MAX_NODES : goal.returns-then-next-gt-MAX_NODES
-returns-then-next-gt-MAX_NODES c = puts-many c.requires c.wide-next.ensures.0 c.if-next-gt-MAX_NODES.true
+returns-then-next-gt-MAX_NODES c = puts-many c.requires refl c.if-next-gt-MAX_NODES.true
 
 pub returns-then-out-place : goal.returns-then-out-place
-returns-then-out-place c = puts-short c.requires c.wide-next.ensures.0 c.if-out-place.true
+returns-then-out-place c = puts-short c.requires refl c.if-out-place.true
 
 pub bounds-out-place-2 : goal.bounds-out-place-2
 bounds-out-place-2 c = simp length-set (omega arith)
@@ -28,4 +29,4 @@ bounds-out-0-2 c = simp length-set (omega arith)
 
 pub returns : goal.returns
 unfolding grown
-returns c = puts-new c.requires c.wide-next.ensures.0 c.if-next-gt-MAX_NODES.false c.if-out-place.false
+returns c = puts-new c.requires refl c.if-next-gt-MAX_NODES.false c.if-out-place.false

@@ -1,3 +1,4 @@
+use mathlib.Core.Path.{refl}
 use native.Mathlib.Omega.{arith}
 use Rattle.shared_table.specs.PutLaws.{head_few, head-below, look_start, look_few, look_inside, look-behind, look-further, look_end, puts_found}
 use Rattle.shared_table.proofs.put.Goals as goal
@@ -10,7 +11,7 @@ bounds-out-link c = head-below _ c.requires c.head-link.ensures
 
 pub loop-at-init : goal.loop-at-init
 loop-at-init c =
-    look_start c.requires c.ranges.word.fits c.head-link.ensures c.wide-bits.ensures.0 c.wide-at.ensures.0
+    look_start c.requires c.ranges.word.fits c.head-link.ensures refl refl
 
 pub overflow_mul-place : goal.overflow_mul-place
 overflow_mul-place c = let f = look_few c.loop-at.invariant in record { fits = omega arith }
@@ -48,7 +49,7 @@ loop-at-smaller c =
 
 pub loop-at-preserved : goal.loop-at-preserved
 loop-at-preserved c =
-    look-further c.loop-at.invariant c.loop-at-test.true c.if-out-place.false c.wide-at-in-loop-at.ensures.0
+    look-further c.loop-at.invariant c.loop-at-test.true c.if-out-place.false refl
 
 pub append-requires : goal.append-requires
 append-requires c = look_end c.loop-at.invariant c.loop-at-test.false

@@ -6,26 +6,26 @@ use Rattle.shared_writing.specs.WindowLaws.{chains_start, chains_more, chains_no
 use Rattle.shared_writing.proofs.window.Goals as goal
 
 pub loop-i-init : goal.loop-i-init
-loop-i-init c = (omega arith, chains_start)
+loop-i-init c = chains_start
 
 pub returns-then-r-gt-MAX_NODES : goal.returns-then-r-gt-MAX_NODES
 returns-then-r-gt-MAX_NODES c =
-    windowed c.args.n (chains_none c.loop-i.i c.args.n c.loop-i.invariant.1 (omega arith) (omega arith) (omega arith))
+    windowed c.args.n (chains_none c.loop-i.i c.args.n c.loop-i.invariant (omega arith) (omega arith) (omega arith))
 
 pub cap-later-requires : goal.cap-later-requires
 cap-later-requires c =
-    (omega arith, stays_shared c.loop-i.invariant.1.stays c.requires.1)
+    (omega arith, stays_shared c.loop-i.invariant.stays c.requires.1)
 
 pub join-r-requires : goal.join-r-requires
 join-r-requires c =
-    (omega arith, stays_shared (stays_then c.loop-i.invariant.1.stays c.cap-later.ensures.stays) c.requires.1)
+    (omega arith, stays_shared (stays_then c.loop-i.invariant.stays c.cap-later.ensures.stays) c.requires.1)
 
 pub loop-i-preserved : goal.loop-i-preserved
 loop-i-preserved c =
-    (omega arith, rw add-one (chains_more c.loop-i.i c.loop-i.invariant.1 c.cap-later.ensures c.join-r.ensures))
+    rw add-one (chains_more c.loop-i.i c.loop-i.invariant c.cap-later.ensures c.join-r.ensures)
 
 pub returns : goal.returns
 returns c =
     let n = c.args.n in
     let e : c.loop-i.i ≡ n = omega arith in
-    windowed n (rw e at c.loop-i.invariant.1)
+    windowed n (rw e at c.loop-i.invariant)

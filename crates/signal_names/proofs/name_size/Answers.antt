@@ -10,7 +10,7 @@ returns-then-not-is_name_byte c =
 
 pub loop-i-preserved : goal.loop-i-preserved
 loop-i-preserved c = (
-  omega arith,
+  (omega arith, omega arith),
   omega (
     arith,
     c.loop-i.invariant.1,

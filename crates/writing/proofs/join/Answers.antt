@@ -1,7 +1,6 @@
 -- `join` meets its contract: no first operand ends at index 0 or after the second, and a second that ends at the last index or past it leaves no room.
 use Rattle.writing.specs.StepLaws.{joins, joins_none}
 use native.Mathlib.Omega.{arith}
-use borrow.Author.Rules.{rules}
 use Rattle.writing.proofs.join.Goals as goal
 
 pub returns-then-m-eq0 : goal.returns-then-m-eq0
@@ -14,4 +13,4 @@ pub returns-then-n-ge-MAX_NODES : goal.returns-then-n-ge-MAX_NODES
 returns-then-n-ge-MAX_NODES c = joins_none (λ h l. omega arith) (omega arith)
 
 pub returns : goal.returns
-returns c = joins (search rules) c.join.ensures
+returns c = joins c.told-out c.unwrap_or.ensures c.join.ensures

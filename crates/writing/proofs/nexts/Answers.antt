@@ -5,15 +5,13 @@ use Rattle.writing.specs.StepLaws.{nexts-start, nexts-more, nexts_none}
 use Rattle.writing.proofs.nexts.Goals as goal
 
 pub loop-i-init : goal.loop-i-init
-loop-i-init c = (omega arith, nexts-start)
+loop-i-init c = nexts-start
 
 pub returns-then-r-gt-MAX_NODES : goal.returns-then-r-gt-MAX_NODES
-returns-then-r-gt-MAX_NODES c =
-    nexts_none c.loop-i.i c.args.n c.loop-i.invariant.1 (omega arith) (omega arith) (omega arith)
+returns-then-r-gt-MAX_NODES c = nexts_none c.loop-i.i c.args.n c.loop-i.invariant (omega arith) (omega arith) (omega arith)
 
 pub loop-i-preserved : goal.loop-i-preserved
-loop-i-preserved c =
-    (omega arith, rw add-one (nexts-more c.loop-i.i c.loop-i.invariant.1 c.cap-r.ensures))
+loop-i-preserved c = rw add-one (nexts-more c.loop-i.i c.loop-i.invariant c.cap-r.ensures)
 
 pub returns : goal.returns
-returns c = let e : c.loop-i.i ≡ c.args.n = omega arith in rw (sym e) c.loop-i.invariant.1
+returns c = let e : c.loop-i.i ≡ c.args.n = omega arith in rw (sym e) c.loop-i.invariant

@@ -1,7 +1,8 @@
 use native.Mathlib.Omega.{arith}
+use Rattle.std.specs.Prelude.{Ok}
+use Rattle.machine.specs.declared.Move.TheVariants.{Next}
 use mathlib.Core.Path.{refl, ap, ◌∙◌}
 use Rattle.atom_steps.specs.BitLaws.{nothing-refuses, others-misfit, bit-refuses, bit-fits, bit-steps, note_inside}
-use Rattle.machine.specs.declared.Move.TheVariants.{Next}
 use Rattle.machine.specs.declared.Machine.{Machine}
 use Rattle.machine.specs.Moves.{wrote}
 use Rattle.machine.specs.ContractLaws.{takes-to-write-as}
@@ -40,5 +41,5 @@ returns c =
     let at-popped = c.popped in
     let at-capped = c.capped in
     let at-wrote = c.wrote in
-    let p = c.requires.points in takes-to-write-as (ap Next (at-wrote.ensures ∙ ap (λ (n : Machine). wrote n at-capped.result) at-popped.ensures))
+    let p = c.requires.points in takes-to-write-as (ap (λ (y : Machine). Ok (Next y)) (at-wrote.ensures ∙ ap (λ (n : Machine). wrote n at-capped.result) at-popped.ensures))
     (bit-steps p.waiting p.number p.entry p.reference p.declared refl refl c.if-sort-2.false at-if3.false at-signal-at.ensures at-capped.ensures)

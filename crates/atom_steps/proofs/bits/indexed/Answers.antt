@@ -1,10 +1,7 @@
 -- `bits::indexed` meets its contract: a number has come; a definition's body is worked out next, any other name is looked up.
 use native.Mathlib.Omega.{arith}
-use Prim.Native.Nat.{◌+◌}
-use lib.ListN.{get_or}
 use mathlib.Core.Path.{refl}
 use Rattle.atom_steps.specs.BitLaws.{indexed_scope, element-misfits, body-steps, reference-inside}
-use Rattle.machine.specs.Fields.{entry_field}
 use Rattle.machine.specs.OperandLaws.{topped_to_write-entry}
 use Rattle.machine.specs.MisfitLaws.{number-misfits, misfits-still}
 use Rattle.atom_steps.proofs.bits.indexed.Goals as goal
@@ -18,17 +15,13 @@ pub overflow_cast-j : goal.overflow_cast-j
 overflow_cast-j c =
     let f = (topped_to_write-entry c.requires.topped_to_write).few in omega arith
 
-pub offset_bounds-refs-j : goal.offset_bounds-refs-j
-offset_bounds-refs-j c =
+pub offset_bounds-source-j : goal.offset_bounds-source-j
+offset_bounds-source-j c =
     let f = (topped_to_write-entry c.requires.topped_to_write).few in omega arith
 
-pub bounds-refs-j : goal.bounds-refs-j
-bounds-refs-j c =
+pub bounds-source-j : goal.bounds-source-j
+bounds-source-j c =
     reference-inside c.requires.topped_to_write
-
-pub overflow_cast-r : goal.overflow_cast-r
-overflow_cast-r c =
-    omega (arith, c.type_inv.refs (get_or c.args.memory.now (c.args.m.frames + entry_field) 0))
 
 pub returns-then-r-ge-MAX_NAMES : goal.returns-then-r-ge-MAX_NAMES
 returns-then-r-ge-MAX_NAMES c =

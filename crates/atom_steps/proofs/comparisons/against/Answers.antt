@@ -1,7 +1,8 @@
 use native.Mathlib.Omega.{arith}
+use Rattle.std.specs.Prelude.{Ok}
+use Rattle.machine.specs.declared.Move.TheVariants.{Next}
 use mathlib.Core.Path.{refl, ap, ◌∙◌}
 use Rattle.atom_steps.specs.AgainstLaws.{against_notes, against-entry, against-readable, against-first, against-misfits, against-width, against-equal, against-unequal}
-use Rattle.machine.specs.declared.Move.TheVariants.{Next}
 use Rattle.machine.specs.declared.Machine.{Machine}
 use Rattle.machine.specs.Moves.{wrote}
 use Rattle.machine.specs.ContractLaws.{takes-to-write-as}
@@ -114,7 +115,7 @@ returns-then-operator-eq-EQUAL c =
     let at-popped = c.popped in
     let at-capped = c.capped in
     let at-wrote = c.wrote in
-    takes-to-write-as (ap Next (at-wrote.ensures ∙ ap (λ (n : Machine). wrote n at-capped.result) at-popped.ensures))
+    takes-to-write-as (ap (λ (y : Machine). Ok (Next y)) (at-wrote.ensures ∙ ap (λ (n : Machine). wrote n at-capped.result) at-popped.ensures))
     (against-equal c.requires.faces at-infix-at.ensures
     (record { width_is_lem = refl; first-is = refl; entry-is = refl; end_is = at-words-end.ensures }) at-if1.false at-widths-are.ensures at-if2.true at-one-of.ensures at-if3.true at-capped.ensures)
 
@@ -137,7 +138,7 @@ returns-then-widths_are c =
     let at-popped2 = c.popped-then-widths_are in
     let at-capped2 = c.capped-then-widths_are in
     let at-wrote2 = c.wrote-then-widths_are in
-    takes-to-write-as (ap Next (at-wrote2.ensures ∙ ap (λ (n : Machine). wrote n at-capped2.result) at-popped2.ensures))
+    takes-to-write-as (ap (λ (y : Machine). Ok (Next y)) (at-wrote2.ensures ∙ ap (λ (n : Machine). wrote n at-capped2.result) at-popped2.ensures))
     (against-unequal c.requires.faces at-infix-at.ensures
     (record { width_is_lem = refl; first-is = refl; entry-is = refl; end_is = at-words-end.ensures }) at-if1.false at-widths-are.ensures at-if2.true at-one-of.ensures at-if3.false at_cap.ensures at-capped2.ensures)
 

@@ -1,7 +1,8 @@
 use native.Mathlib.Omega.{arith}
+use Rattle.std.specs.Prelude.{Ok}
+use Rattle.machine.specs.declared.Move.TheVariants.{Next}
 use mathlib.Core.Path.{refl, ap, ◌∙◌}
 use Rattle.atom_steps.specs.ComparisonLaws.{number-misfits, number-steps}
-use Rattle.machine.specs.declared.Move.TheVariants.{Next}
 use Rattle.machine.specs.declared.Machine.{Machine}
 use Rattle.machine.specs.Moves.{wrote}
 use Rattle.machine.specs.ContractLaws.{takes-to-write-as}
@@ -30,5 +31,5 @@ returns c =
     let at-popped = c.popped in
     let at-capped = c.capped in
     let at-wrote = c.wrote in
-    takes-to-write-as (ap Next (at-wrote.ensures ∙ ap (λ (n : Machine). wrote n at-capped.result) at-popped.ensures))
+    takes-to-write-as (ap (λ (y : Machine). Ok (Next y)) (at-wrote.ensures ∙ ap (λ (n : Machine). wrote n at-capped.result) at-popped.ensures))
     (number-steps c.requires.comparing at-if1.false at-infix-at.ensures refl at-compare.ensures at_constant.ensures at-capped.ensures)

@@ -1,6 +1,7 @@
 use mathlib.Core.Path.{refl, ap, ◌∙◌}
-use Rattle.atom_steps.specs.MembershipLaws.{among-placed, among-steps}
+use Rattle.std.specs.Prelude.{Ok}
 use Rattle.machine.specs.declared.Move.TheVariants.{Next}
+use Rattle.atom_steps.specs.MembershipLaws.{among-placed, among-steps}
 use Rattle.machine.specs.declared.Machine.{Machine}
 use Rattle.machine.specs.Moves.{wrote}
 use Rattle.machine.specs.ContractLaws.{takes-to-write-as}
@@ -25,5 +26,5 @@ returns c =
     let at-popped = c.popped in
     let at-capped = c.capped in
     let at-wrote = c.wrote in
-    takes-to-write-as (ap Next (at-wrote.ensures ∙ ap (λ (n : Machine). wrote n at-capped.result) at-popped.ensures))
+    takes-to-write-as (ap (λ (y : Machine). Ok (Next y)) (at-wrote.ensures ∙ ap (λ (n : Machine). wrote n at-capped.result) at-popped.ensures))
     (among-steps c.requires.waiting at-if1.false refl at-contains.ensures at_constant.ensures at-capped.ensures)

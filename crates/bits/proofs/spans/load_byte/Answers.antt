@@ -5,4 +5,4 @@ use Rattle.bits.proofs.spans.load_byte.Goals as goal
 
 pub returns : goal.returns
 unfolding read_at
-returns c = simp add-zero (omega arith)
+returns c = simp add-zero (omega (arith, c.from.ensures))

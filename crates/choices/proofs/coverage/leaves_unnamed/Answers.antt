@@ -1,5 +1,6 @@
 use native.Mathlib.Omega.{arith}
 use mathlib.Core.Path.{refl}
+use Rattle.std.proofs.lemmas.List.{length-take}
 use Rattle.choices.specs.CoverageLaws.{rows-blank}
 use Rattle.choices.specs.PromiseLaws.{tabling_none, tabling_skip, tabling-narrow, tabling-room, tabling-word, tabling_empty, tabling_all, tabling_wide, unnamed-is}
 use Rattle.choices.proofs.coverage.leaves_unnamed.Goals as goal
@@ -46,7 +47,7 @@ returns-then-count-eq0 c = unnamed-is (tabling_empty c.loop-i.invariant c.loop-i
 
 pub covered-requires : goal.covered-requires
 covered-requires c =
-    (c.loop-i.invariant.filled, (omega arith, tabling_wide c.requires.regular c.loop-i.invariant c.if-count-eq0.false))
+    (omega (arith, c.loop-i.invariant.filled.few, length-take c.loop-i.count c.loop-i.rows), (omega arith, tabling_wide c.requires.regular c.loop-i.invariant c.if-count-eq0.false))
 
 pub returns : goal.returns
 returns c =

@@ -21,19 +21,15 @@ bounds-places-j c =
 
 pub offset_bounds-refs-k : goal.offset_bounds-refs-k
 offset_bounds-refs-k c =
-    let i : c.wide-k.result < max_tokens = subst (λ n. n < max_tokens) (sym c.wide-k.ensures.0)
+    let i : c.from-k.result < max_tokens = subst (λ n. n < max_tokens) (sym c.from-k.ensures)
     (c.requires.inside c.loop-j.j c.loop-j-test.true) in
     omega arith
 
 pub bounds-refs-k : goal.bounds-refs-k
 bounds-refs-k c =
-    let i : c.wide-k.result < max_tokens = subst (λ n. n < max_tokens) (sym c.wide-k.ensures.0)
+    let i : c.from-k.result < max_tokens = subst (λ n. n < max_tokens) (sym c.from-k.ensures)
     (c.requires.inside c.loop-j.j
     c.loop-j-test.true) in omega (arith, c.requires.refs_room)
-
-pub offset_bounds-order-j : goal.offset_bounds-order-j
-offset_bounds-order-j c =
-    omega (arith, c.loop-j-test.true, c.requires.few)
 
 pub bounds-order-j : goal.bounds-order-j
 bounds-order-j c =
@@ -43,7 +39,7 @@ pub enumeration_for-requires : goal.enumeration_for-requires
 enumeration_for-requires c = (
   c.requires.work,
   (
-    subst (λ n. n < max_tokens) (sym c.wide-k.ensures.0)
+    subst (λ n. n < max_tokens) (sym c.from-k.ensures)
         (c.requires.inside c.loop-j.j
         c.loop-j-test.true),
     (
@@ -53,10 +49,6 @@ enumeration_for-requires c = (
   ),
 )
 
-pub offset_bounds-enumerations-j : goal.offset_bounds-enumerations-j
-offset_bounds-enumerations-j c =
-    omega (arith, c.loop-j-test.true, c.requires.few)
-
 pub bounds-enumerations-j : goal.bounds-enumerations-j
 bounds-enumerations-j c =
     omega (arith, c.loop-j-test.true, c.loop-j.invariant.1.1.0, c.requires.enumerations_room)
@@ -64,26 +56,14 @@ bounds-enumerations-j c =
 pub place_at-requires : goal.place_at-requires
 place_at-requires c = (
   subst (λ n. n < max_tokens)
-      (sym c.wide-k.ensures.0) (c.requires.inside
+      (sym c.from-k.ensures) (c.requires.inside
       c.loop-j.j c.loop-j-test.true),
   c.requires.work,
 )
 
-pub offset_bounds-offsets-j : goal.offset_bounds-offsets-j
-offset_bounds-offsets-j c =
-    omega (arith, c.loop-j-test.true, c.requires.few)
-
 pub bounds-offsets-j : goal.bounds-offsets-j
 bounds-offsets-j c =
     omega (arith, c.loop-j-test.true, c.loop-j.invariant.1.1.1.0, c.requires.offsets_room)
-
-pub overflow_add-j : goal.overflow_add-j
-overflow_add-j c =
-    omega (arith, c.loop-j-test.true, c.requires.few)
-
-pub loop-j-smaller : goal.loop-j-smaller
-loop-j-smaller c =
-    omega (arith, c.loop-j-test.true)
 
 pub loop-j-preserved : goal.loop-j-preserved
 loop-j-preserved c = (
@@ -100,7 +80,7 @@ loop-j-preserved c = (
               c.loop-j.order c.loop-j.j _
               (omega (arith, c.loop-j-test.true, c.loop-j.invariant.1.0, c.requires.order-room))
               (ap (λ k. get_or c.args.refs.now k 0)
-              c.wide-k.ensures.0) c.loop-j.invariant.1.1.1.1.0,
+              c.from-k.ensures) c.loop-j.invariant.1.1.1.1.0,
           (
             filled_more (λ i. enumeration_for c.args.work.now
                 c.args.refs.now
@@ -110,7 +90,7 @@ loop-j-preserved c = (
                 (omega (arith, c.loop-j-test.true, c.loop-j.invariant.1.1.0, c.requires.enumerations_room))
                 (c.enumeration_for.ensures ∙ ap (enumeration_for c.args.work.now
                 c.args.refs.now
-                c.args.found.now) c.wide-k.ensures.0)
+                c.args.found.now) c.from-k.ensures)
                 c.loop-j.invariant.1.1.1.1.1.0,
             filled_more
                 (λ i. place_at c.args.work.now
@@ -118,22 +98,13 @@ loop-j-preserved c = (
                 c.loop-j.offsets c.loop-j.j _
                 (omega (arith, c.loop-j-test.true, c.loop-j.invariant.1.1.1.0, c.requires.offsets_room))
                 (c.place_at.ensures ∙ ap (place_at c.args.work.now)
-                c.wide-k.ensures.0) c.loop-j.invariant.1.1.1.1.1.1,
+                c.from-k.ensures) c.loop-j.invariant.1.1.1.1.1.1,
           ),
         ),
       ),
     ),
   ),
 )
-
-pub shape_of-order : goal.shape_of-order
-shape_of-order c = c.loop-j.invariant.1.0
-
-pub shape_of-enumerations : goal.shape_of-enumerations
-shape_of-enumerations c = c.loop-j.invariant.1.1.0
-
-pub shape_of-offsets : goal.shape_of-offsets
-shape_of-offsets c = c.loop-j.invariant.1.1.1.0
 
 pub returns : goal.returns
 returns c = record {

@@ -1,5 +1,5 @@
 -- `describe` meets its contract: the ports before position j are described.
-use Prim.Native.Nat.{◌-◌, ◌≤◌}
+use Prim.Native.Nat.{◌≤◌}
 use mathlib.Core.Path.{◌≡◌}
 use lib.ListN.{length, get_or}
 use Rattle.operands.specs.Entries.{place_at}
@@ -11,6 +11,3 @@ invariant-loop-j l = (l.j ≤ l.count) ×
     ((length l.order ≡ length l.initial.order) × ((length l.enumerations ≡ length l.initial.enumerations) ×
     ((length l.offsets ≡ length l.initial.offsets) × (Filled (λ i. get_or l.refs (get_or l.places i 0) 0) l.order l.j ×
     (Filled (λ i. enumeration_for l.work l.refs l.found (get_or l.places i 0)) l.enumerations l.j × Filled (λ i. place_at l.work (get_or l.places i 0)) l.offsets l.j)))))
-
-abbrev pub decreases-loop-j : goal.decreases-loop-j
-decreases-loop-j l = l.count - l.j

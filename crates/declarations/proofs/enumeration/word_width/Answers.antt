@@ -21,9 +21,6 @@ returns-then-kind-ne-IDENTIFIER c =
     λ text count words l h. sym (ap (min longest) (scanning-other l words c.loop-i.i (c.loop-i.invariant.1 text count words l h)
     (λ q. c.if-kind-eq-WORD.false (c.kind_at-kind.ensures ∙ q)) (λ q. c.if-kind-ne-IDENTIFIER.true (c.kind_at-kind.ensures ∙ q))))
 
-pub loop-i-smaller : goal.loop-i-smaller
-loop-i-smaller c = omega (arith, c.loop-i-test.true)
-
 pub loop-i-preserved : goal.loop-i-preserved
 unfolding kind_at
 loop-i-preserved c = (

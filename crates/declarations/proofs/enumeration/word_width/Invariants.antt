@@ -1,5 +1,5 @@
 -- `word_width` meets its contract: no word stands before entry i.
-use Prim.Native.Nat.{ℕ, ◌-◌, ◌≤◌}
+use Prim.Native.Nat.{ℕ, ◌≤◌}
 use mathlib.Core.List.{List}
 use Rattle.language.specs.Limits.{max_tokens}
 use Rattle.language.specs.Tokens.{Token, tokens}
@@ -10,6 +10,3 @@ use Rattle.declarations.proofs.enumeration.word_width.Given as goal
 
 abbrev pub invariant-loop-i : goal.invariant-loop-i
 invariant-loop-i l = (l.i ≤ max_tokens) × ((text : List ℕ) (count : ℕ) (words : List Token) (x : Lexed text l.work count) → EnumerationAt (tokens text) l.work l.e words → Scanning x words l.i)
-
-abbrev pub decreases-loop-i : goal.decreases-loop-i
-decreases-loop-i l = max_tokens - l.i

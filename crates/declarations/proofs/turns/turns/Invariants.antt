@@ -1,5 +1,5 @@
 -- `turns` meets its contract: the declarations from position j on wait for their turn.
-use Prim.Native.Nat.{◌-◌, ◌≤◌}
+use Prim.Native.Nat.{◌≤◌}
 use mathlib.Core.Path.{◌≡◌}
 use lib.ListN.{length}
 use Rattle.declarations.specs.Turns.{Before}
@@ -11,7 +11,4 @@ invariant-loop-j l =
     (((length l.memory ≡ length l.initial.memory) ×
     ((length l.table ≡ length l.initial.table) × ((length l.sorts ≡ length l.initial.sorts) × ((length l.numbers ≡ length l.initial.numbers) × (length l.widths ≡ length l.initial.widths))))) ×
     ((l.initial.j ≤ l.j) × Before l.initial.j l.initial.widths l.widths)) ×
-    Looping l.text l.work l.refs l.places l.enumerations l.initial.j l.to l.entries l.initial.sorts l.initial.numbers l.j l.sorts l.numbers l.widths
-
-abbrev pub decreases-loop-j : goal.decreases-loop-j
-decreases-loop-j l = l.to - l.j
+    Looping l.source.text.now l.source.work.now l.source.refs.now l.places l.enumerations l.initial.j l.to l.entries l.initial.sorts l.initial.numbers l.j l.sorts l.numbers l.widths

@@ -1,7 +1,8 @@
 use mathlib.Core.Path.{refl, ap, ◌∙◌}
+use Rattle.std.specs.Prelude.{Ok}
+use Rattle.machine.specs.declared.Move.TheVariants.{Next}
 use native.Mathlib.Omega.{arith}
 use Rattle.machine.specs.declared.Machine.{Machine}
-use Rattle.machine.specs.declared.Move.TheVariants.{Next}
 use Rattle.machine.specs.Moves.{wrote}
 use Rattle.machine.specs.ContractLaws.{takes-to-write-as}
 use Rattle.machine.specs.OperandLaws.{topped_to_write-entry}
@@ -48,7 +49,7 @@ returns-then-m-eq0 c =
     let at-popped = c.popped in
     let at-capped = c.capped in
     let at-wrote = c.wrote in
-    takes-to-write-as (ap Next (at-wrote.ensures ∙ ap (λ (n : Machine). wrote n at-capped.result) at-popped.ensures))
+    takes-to-write-as (ap (λ (y : Machine). Ok (Next y)) (at-wrote.ensures ∙ ap (λ (n : Machine). wrote n at-capped.result) at-popped.ensures))
     (elements-none c.requires.waiting at-if1.false refl at-kind-at.ensures at-if2.false at-if3.true at-prefix-at.ensures refl at_constant.ensures at-capped.ensures)
 
 pub begin-requires : goal.begin-requires

@@ -1,7 +1,7 @@
 -- `entries::Cursor::expect` meets its contract: a token with the number asked for is not the text's end, so there is one to go past.
 use native.Mathlib.Omega.{arith}
 use mathlib.Core.Path.{sym, ap, ◌∙◌}
-use Rattle.entries.specs.declared.Parse.TheVariants.{Parsed}
+use Rattle.std.specs.Prelude.{Ok}
 use Rattle.entries.specs.CursorLaws.{before-end, expected-here, expected-not}
 use Rattle.entries.proofs.Cursor.expect.Goals as goal
 
@@ -11,7 +11,7 @@ next-requires c =
 
 pub returns-then-number : goal.returns-then-number
 returns-then-number c =
-    ap Parsed c.next.ensures ∙ sym (expected-here c.args.work.now c.args.self c.args.number (omega arith))
+    ap Ok c.next.ensures ∙ sym (expected-here c.args.work.now c.args.self c.args.number (omega arith))
 
 pub returns : goal.returns
 returns c =

@@ -23,8 +23,8 @@ returns-in_default c =
 
 pub binder-requires : goal.binder-requires
 binder-requires c =
-    let r = (expected-parsed c.args.work.now (next_of c.args.m.c) c.in-Parsed.d (fixed "[")
-    (ap (λ d. expected c.args.work.now d (fixed "[")) (sym c.next.ensures) ∙ sym c.expect-r.ensures ∙ c.in-Parsed.is)) in
+    let r = (expected-parsed c.args.work.now (next_of c.args.m.c) c.in-Ok.d (fixed "[")
+    (ap (λ d. expected c.args.work.now d (fixed "[")) (sym c.next.ensures) ∙ sym c.expect-r.ensures ∙ c.in-Ok.is)) in
     rw r.1 (record {
       tokens = c.requires.0.tokens;
       start = c.requires.0.start;
@@ -35,6 +35,6 @@ binder-requires c =
 
 pub returns : goal.returns
 returns c =
-    λ ts s x h. let r = (expected-parsed c.args.work.now (next_of c.args.m.c) c.in-Parsed.d (fixed "[")
-    (ap (λ d. expected c.args.work.now d (fixed "[")) (sym c.next.ensures) ∙ sym c.expect-r.ensures ∙ c.in-Parsed.is)) in
+    λ ts s x h. let r = (expected-parsed c.args.work.now (next_of c.args.m.c) c.in-Ok.d (fixed "[")
+    (ap (λ d. expected c.args.work.now d (fixed "[")) (sym c.next.ensures) ∙ sym c.expect-r.ensures ∙ c.in-Ok.is)) in
     turn-fold h c.requires.1 c.requires.2 r.0 (rw r.1 at (c.binder.ensures ts s x (rw r.1 (fold-names h c.requires.1 c.requires.2 r.0))))

@@ -1,6 +1,7 @@
 -- `next` meets its contract: what was folded and what has come are calculated together, or a refusal is handed up.
 use mathlib.Core.Path.{refl}
 use native.Mathlib.Omega.{arith}
+use Rattle.node.proofs.ReturnedLaws.{raised}
 use Rattle.fold_steps.specs.NumberLaws.{next-foldable, next-refuses, next-steps}
 use Rattle.machine.specs.OperandLaws.{topped-entry}
 use Rattle.machine.specs.MisfitLaws.{number-misfits}
@@ -22,11 +23,11 @@ pub prefix_at-requires : goal.prefix_at-requires
 prefix_at-requires c =
     let f = topped-entry c.requires.topped in (f.few, f.work)
 
-pub returns-in_default : goal.returns-in_default
-returns-in_default c =
-    rw (c.unworked.ensures _ _ c.in_default.is)
+pub returns-in_err-n : goal.returns-in_err-n
+returns-in_err-n c =
+    rw (raised c.from_residual.ensures)
     (next-refuses c.requires.waiting c.if-m-ne-NUMBER.false {i = c.prefix_at.result}
-    (record { entry = refl; operator = c.prefix_at.ensures; place = c.place_at.ensures; folded = refl; answer = rw c.in_default.is at c.calculate-r.ensures }))
+    (record { entry = refl; operator = c.prefix_at.ensures; place = c.place_at.ensures; folded = refl; answer = rw c.in_err-n.was at c.calculate.ensures }))
 
 pub onward-requires : goal.onward-requires
 onward-requires c =
@@ -35,5 +36,5 @@ onward-requires c =
 pub returns : goal.returns
 returns c =
     next-steps c.requires.waiting c.if-m-ne-NUMBER.false {i = c.prefix_at.result}
-    (record { entry = refl; operator = c.prefix_at.ensures; place = c.place_at.ensures; folded = refl; answer = rw c.in-Value.is at c.calculate-r.ensures })
+    (record { entry = refl; operator = c.prefix_at.ensures; place = c.place_at.ensures; folded = refl; answer = rw c.in_ok-n.was at c.calculate.ensures })
     c.onward.result c.onward.ensures

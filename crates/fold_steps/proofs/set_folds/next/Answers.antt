@@ -2,6 +2,7 @@
 use native.Mathlib.Omega.{arith}
 use Prim.Native.Nat.{◌+◌}
 use mathlib.Core.Path.{refl}
+use Rattle.node.proofs.ReturnedLaws.{raised}
 use Rattle.machine.specs.Fields.{value_field, other_field}
 use Rattle.machine.specs.OperandLaws.{topped-entry}
 use Rattle.fold_steps.specs.SetLaws.{next-two, next-foldable, next-refuses, next-steps}
@@ -32,25 +33,25 @@ pub place_at-place-requires : goal.place_at-place-requires
 place_at-place-requires c =
     let f = topped-entry c.requires.topped in (f.few, f.work)
 
-pub combine-r-requires : goal.combine-r-requires
-combine-r-requires c =
+pub combine-requires : goal.combine-requires
+combine-requires c =
     next-two c.requires.waiting c.if-m-ne-SET.false refl refl refl c.requires.topped
 
-pub returns-in_default : goal.returns-in_default
-returns-in_default c =
-    rw (c.unworked.ensures _ _ c.in_default.is)
+pub returns-in_err-n : goal.returns-in_err-n
+returns-in_err-n c =
+    rw (raised c.from_residual.ensures)
     (next-refuses c.requires.waiting c.if-m-ne-SET.false {i = c.prefix_at-operator.result}
     (record { entry = refl; operator = c.prefix_at-operator.ensures; place = c.place_at-place.ensures; folded-at = refl; folded-count = refl; to_is = refl })
-    (rw c.in_default.is at c.combine-r.ensures))
+    (rw c.in_err-n.was at c.combine.ensures))
 
 pub onward-requires : goal.onward-requires
 onward-requires c =
     next-foldable c.requires.waiting c.if-m-ne-SET.false {i = c.prefix_at-operator.result}
     (record { entry = refl; operator = c.prefix_at-operator.ensures; place = c.place_at-place.ensures; folded-at = refl; folded-count = refl; to_is = refl })
-    (rw c.in-Value.is at c.combine-r.ensures) c.requires.topped
+    (rw c.in_ok-n.was at c.combine.ensures) c.requires.topped
 
 pub returns : goal.returns
 returns c =
     next-steps c.requires.waiting c.if-m-ne-SET.false {i = c.prefix_at-operator.result}
     (record { entry = refl; operator = c.prefix_at-operator.ensures; place = c.place_at-place.ensures; folded-at = refl; folded-count = refl; to_is = refl })
-    (rw c.in-Value.is at c.combine-r.ensures) c.onward.result c.onward.ensures
+    (rw c.in_ok-n.was at c.combine.ensures) c.onward.result c.onward.ensures

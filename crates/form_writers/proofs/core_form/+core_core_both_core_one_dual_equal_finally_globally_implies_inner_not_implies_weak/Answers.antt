@@ -2,16 +2,15 @@ use Prim.Native.Nat.{ℕ}
 use mathlib.Core.Path.{◌≡◌, refl}
 use mathlib.Core.Logic.{inl, inr}
 use native.Mathlib.Omega.{arith}
-use borrow.Author.Rules.{rules}
 use Rattle.node.specs.Limits.{field_limit}
 use Rattle.node.specs.Ltl.{G, F, Implies, Iff, W}
 use Rattle.node.specs.Kinds.{shape_of, true_kind, false_kind, signal_kind, unary_kind, binary_kind}
 use Rattle.node.specs.Formed.{NodeIs}
 use Rattle.node.proofs.TableLaws.{no_other}
 use Rattle.forms.specs.Forms.{core as core'}
-use Rattle.form_writers.specs.WritingLaws.{operand, operands, lower}
+use Rattle.form_writers.specs.WritingLaws.{operand, operands}
 use Rattle.form_writers.specs.KeptLaws.{OneStep, TwoStep, DualStep, core-one, core-two, core-dual}
-use Rattle.storing.specs.StoringLaws.{room_after, unary_full, unary-wrote, end, binary_full, binary_full_right, binary-wrote, ends, not-binary_full, not-binary_full_right, not-binary-wrote}
+use Rattle.storing.specs.StoringLaws.{unary_full, unary-wrote, end, binary_full, binary_full_right, binary-wrote, ends, not-binary_full, not-binary_full_right, not-binary-wrote}
 use Rattle.form_writers.proofs.core_form.+core_core_both_core_one_dual_equal_finally_globally_implies_inner_not_implies_weak.Goals as goal
 
 pub core-fields_at-node-requires : goal.core-fields_at-node-requires
@@ -26,10 +25,6 @@ unfolding core'
 core-signal-requires t c =
     ((core-signal t c).lower, c.requires.room)
 
-pub core-shape_of-out-then-node-eq-SIGNAL : goal.core-shape_of-out-then-node-eq-SIGNAL
-unfolding core'
-core-shape_of-out-then-node-eq-SIGNAL t c = search rules
-
 core-signal-2 : (t : ℕ) → (c : goal.core-After-slice_known-then-node-eq-SIGNAL-1 t) → NodeIs field_limit c.args.nodes.now c.args.i (shape_of signal_kind) c.fields_at-node.result.first c.fields_at-node.result.second
 core-signal-2 t c = rw c.if-node-eq-SIGNAL.true at c.fields_at-node.ensures
 
@@ -42,161 +37,112 @@ pub core-inner-requires : goal.core-inner-requires
 unfolding core'
 core-inner-requires t c = (omega (arith, c.decreases), c.requires)
 
-pub core-shape_of-out : goal.core-shape_of-out
-unfolding core'
-core-shape_of-out t c = search rules
-
 pub core-returns : goal.core-returns
 unfolding core'
 core-returns t c = c.inner.ensures
 
-pub core_both-core-m-requires : goal.core_both-core-m-requires
-core_both-core-m-requires t c = (omega (arith, c.decreases), lower _ c.requires.ready (omega arith) c.requires.ready.room)
+pub core_both-returns-in_err-m : goal.core_both-returns-in_err-m
+core_both-returns-in_err-m t c = binary_full _ _ _ c.in_err-m.was c.from_residual.ensures c.core.ensures
 
-pub core_both-returns-then-m-gt-MAX_NODES : goal.core_both-returns-then-m-gt-MAX_NODES
-core_both-returns-then-m-gt-MAX_NODES t c = binary_full _ _ _ c.if-m-gt-MAX_NODES.true c.core-m.ensures
-
-pub core_both-core-n-requires : goal.core_both-core-n-requires
-core_both-core-n-requires t c =
-    (omega (arith, c.decreases), lower _ c.requires.ready (omega arith) (room_after c.requires.ready.room (c.core-m.ensures.stored c.if-m-gt-MAX_NODES.false)))
-
-pub core_both-returns-then-n-gt-MAX_NODES : goal.core_both-returns-then-n-gt-MAX_NODES
-core_both-returns-then-n-gt-MAX_NODES t c =
-    binary_full_right _ _ _ c.if-n-gt-MAX_NODES.true (c.core-m.ensures.stored c.if-m-gt-MAX_NODES.false) c.core-n.ensures
+pub core_both-returns-in_err-n : goal.core_both-returns-in_err-n
+core_both-returns-in_err-n t c =
+    binary_full_right _ _ _ c.in_err-n.was c.from_residual-in_err-n.ensures (c.core.ensures.stored _ c.in_ok-m.was) c.core-2.ensures
 
 pub core_both-join-requires : goal.core_both-join-requires
 core_both-join-requires t c =
-    ends _ _ _ c.requires.binary.small c.requires.ready.room (c.core-m.ensures.stored c.if-m-gt-MAX_NODES.false) (c.core-n.ensures.stored c.if-n-gt-MAX_NODES.false)
+    ends _ _ _ c.requires.binary.small c.requires.ready.room (c.core.ensures.stored _ c.in_ok-m.was) (c.core-2.ensures.stored _ c.in_ok-n.was)
 
 pub core_both-returns : goal.core_both-returns
 core_both-returns t c =
-    binary-wrote _ _ _ (c.core-m.ensures.stored c.if-m-gt-MAX_NODES.false) (c.core-n.ensures.stored c.if-n-gt-MAX_NODES.false) c.requires.binary.number c.join.ensures
+    binary-wrote _ _ _ (c.core.ensures.stored _ c.in_ok-m.was) (c.core-2.ensures.stored _ c.in_ok-n.was) c.requires.binary.number c.join.ensures
 
-pub core_one-core-m-requires : goal.core_one-core-m-requires
-core_one-core-m-requires t c = (omega (arith, c.decreases), lower _ c.requires.ready (omega arith) c.requires.ready.room)
-
-pub core_one-returns-then-m-gt-MAX_NODES : goal.core_one-returns-then-m-gt-MAX_NODES
-core_one-returns-then-m-gt-MAX_NODES t c = unary_full _ _ c.if-m-gt-MAX_NODES.true c.core-m.ensures
+pub core_one-returns-in_err-m : goal.core_one-returns-in_err-m
+core_one-returns-in_err-m t c = unary_full _ _ c.in_err-m.was c.from_residual.ensures c.core.ensures
 
 pub core_one-cap-requires : goal.core_one-cap-requires
 core_one-cap-requires t c =
-    end _ _ c.requires.unary.small c.requires.ready.room (c.core-m.ensures.stored c.if-m-gt-MAX_NODES.false)
+    end _ _ c.requires.unary.small c.requires.ready.room (c.core.ensures.stored _ c.in_ok-m.was)
 
 pub core_one-returns : goal.core_one-returns
 core_one-returns t c =
-    unary-wrote _ _ (c.core-m.ensures.stored c.if-m-gt-MAX_NODES.false) c.requires.unary.number c.cap.ensures
+    unary-wrote _ _ (c.core.ensures.stored _ c.in_ok-m.was) c.requires.unary.number c.cap.ensures
 
-pub dual-core_one-m-requires : goal.dual-core_one-m-requires
-dual-core_one-m-requires t c = (omega (arith, c.decreases), (lower _ c.requires.ready (omega arith) c.requires.ready.room, search rules))
+pub dual-returns-in_err-m : goal.dual-returns-in_err-m
+dual-returns-in_err-m t c = not-binary_full _ _ _ c.in_err-m.was c.from_residual.ensures c.core_one.ensures
 
-pub dual-returns-then-m-gt-MAX_NODES : goal.dual-returns-then-m-gt-MAX_NODES
-dual-returns-then-m-gt-MAX_NODES t c = not-binary_full _ _ _ c.if-m-gt-MAX_NODES.true c.core_one-m.ensures
-
-pub dual-core_one-n-requires : goal.dual-core_one-n-requires
-dual-core_one-n-requires t c =
-    (omega (arith, c.decreases), (lower _ c.requires.ready (omega arith) (room_after c.requires.ready.room (c.core_one-m.ensures.stored c.if-m-gt-MAX_NODES.false)), search rules))
-
-pub dual-returns-then-n-gt-MAX_NODES : goal.dual-returns-then-n-gt-MAX_NODES
-dual-returns-then-n-gt-MAX_NODES t c =
-    not-binary_full_right _ _ _ c.if-n-gt-MAX_NODES.true (c.core_one-m.ensures.stored c.if-m-gt-MAX_NODES.false) c.core_one-n.ensures
+pub dual-returns-in_err-n : goal.dual-returns-in_err-n
+dual-returns-in_err-n t c =
+    not-binary_full_right _ _ _ c.in_err-n.was c.from_residual-in_err-n.ensures (c.core_one.ensures.stored _ c.in_ok-m.was) c.core_one-2.ensures
 
 pub dual-join_not-requires : goal.dual-join_not-requires
 dual-join_not-requires t c =
-    ends _ _ _ c.requires.binary.small c.requires.ready.room (c.core_one-m.ensures.stored c.if-m-gt-MAX_NODES.false) (c.core_one-n.ensures.stored c.if-n-gt-MAX_NODES.false)
+    ends _ _ _ c.requires.binary.small c.requires.ready.room (c.core_one.ensures.stored _ c.in_ok-m.was) (c.core_one-2.ensures.stored _ c.in_ok-n.was)
 
 pub dual-returns : goal.dual-returns
 dual-returns t c =
-    not-binary-wrote _ _ _ (c.core_one-m.ensures.stored c.if-m-gt-MAX_NODES.false) (c.core_one-n.ensures.stored c.if-n-gt-MAX_NODES.false) c.requires.binary.number
+    not-binary-wrote _ _ _ (c.core_one.ensures.stored _ c.in_ok-m.was) (c.core_one-2.ensures.stored _ c.in_ok-n.was) c.requires.binary.number
     c.join_not.ensures
 
-pub equal-not_implies-m-requires : goal.equal-not_implies-m-requires
-equal-not_implies-m-requires t c = (omega (arith, c.decreases), lower _ c.requires (omega arith) c.requires.room)
+pub equal-returns-in_err-m : goal.equal-returns-in_err-m
+equal-returns-in_err-m t c = not-binary_full _ _ _ c.in_err-m.was c.from_residual.ensures c.not_implies.ensures
 
-pub equal-returns-then-m-gt-MAX_NODES : goal.equal-returns-then-m-gt-MAX_NODES
-equal-returns-then-m-gt-MAX_NODES t c = not-binary_full _ _ _ c.if-m-gt-MAX_NODES.true c.not_implies-m.ensures
-
-pub equal-not_implies-n-requires : goal.equal-not_implies-n-requires
-equal-not_implies-n-requires t c =
-    (omega (arith, c.decreases), lower _ c.requires (omega arith) (room_after c.requires.room (c.not_implies-m.ensures.stored c.if-m-gt-MAX_NODES.false)))
-
-pub equal-returns-then-n-gt-MAX_NODES : goal.equal-returns-then-n-gt-MAX_NODES
-equal-returns-then-n-gt-MAX_NODES t c =
-    not-binary_full_right _ _ _ c.if-n-gt-MAX_NODES.true (c.not_implies-m.ensures.stored c.if-m-gt-MAX_NODES.false) c.not_implies-n.ensures
+pub equal-returns-in_err-n : goal.equal-returns-in_err-n
+equal-returns-in_err-n t c =
+    not-binary_full_right _ _ _ c.in_err-n.was c.from_residual-in_err-n.ensures (c.not_implies.ensures.stored _ c.in_ok-m.was) c.not_implies-2.ensures
 
 pub equal-join_not-requires : goal.equal-join_not-requires
 equal-join_not-requires t c =
-    ends 5 _ _ (omega arith) c.requires.room (c.not_implies-m.ensures.stored c.if-m-gt-MAX_NODES.false) (c.not_implies-n.ensures.stored c.if-n-gt-MAX_NODES.false)
+    ends 5 _ _ (omega arith) c.requires.room (c.not_implies.ensures.stored _ c.in_ok-m.was) (c.not_implies-2.ensures.stored _ c.in_ok-n.was)
 
 pub equal-returns : goal.equal-returns
 equal-returns t c =
-    not-binary-wrote _ _ _ (c.not_implies-m.ensures.stored c.if-m-gt-MAX_NODES.false) (c.not_implies-n.ensures.stored c.if-n-gt-MAX_NODES.false) refl
+    not-binary-wrote _ _ _ (c.not_implies.ensures.stored _ c.in_ok-m.was) (c.not_implies-2.ensures.stored _ c.in_ok-n.was) refl
     c.join_not.ensures
 
-pub finally-constant-m-requires : goal.finally-constant-m-requires
-finally-constant-m-requires t c = (omega arith, c.requires.room)
+pub finally-returns-in_err-m : goal.finally-returns-in_err-m
+finally-returns-in_err-m t c = binary_full _ _ _ c.in_err-m.was c.from_residual.ensures c.constant.ensures
 
-pub finally-returns-then-m-gt-MAX_NODES : goal.finally-returns-then-m-gt-MAX_NODES
-finally-returns-then-m-gt-MAX_NODES t c = binary_full _ _ _ c.if-m-gt-MAX_NODES.true c.constant-m.ensures
-
-pub finally-core-n-requires : goal.finally-core-n-requires
-finally-core-n-requires t c =
-    (omega (arith, c.decreases), lower _ c.requires (omega arith) (room_after c.requires.room (c.constant-m.ensures.stored c.if-m-gt-MAX_NODES.false)))
-
-pub finally-returns-then-n-gt-MAX_NODES : goal.finally-returns-then-n-gt-MAX_NODES
-finally-returns-then-n-gt-MAX_NODES t c =
-    binary_full_right _ _ _ c.if-n-gt-MAX_NODES.true (c.constant-m.ensures.stored c.if-m-gt-MAX_NODES.false) c.core-n.ensures
+pub finally-returns-in_err-n : goal.finally-returns-in_err-n
+finally-returns-in_err-n t c =
+    binary_full_right _ _ _ c.in_err-n.was c.from_residual-in_err-n.ensures (c.constant.ensures.stored _ c.in_ok-m.was) c.core.ensures
 
 pub finally-join-requires : goal.finally-join-requires
 finally-join-requires t c =
-    ends 11 _ _ (omega arith) c.requires.room (c.constant-m.ensures.stored c.if-m-gt-MAX_NODES.false) (c.core-n.ensures.stored c.if-n-gt-MAX_NODES.false)
+    ends 11 _ _ (omega arith) c.requires.room (c.constant.ensures.stored _ c.in_ok-m.was) (c.core.ensures.stored _ c.in_ok-n.was)
 
 pub finally-returns : goal.finally-returns
 finally-returns t c =
-    binary-wrote _ _ _ (c.constant-m.ensures.stored c.if-m-gt-MAX_NODES.false) (c.core-n.ensures.stored c.if-n-gt-MAX_NODES.false) refl c.join.ensures
+    binary-wrote _ _ _ (c.constant.ensures.stored _ c.in_ok-m.was) (c.core.ensures.stored _ c.in_ok-n.was) refl c.join.ensures
 
-pub globally-constant-m-requires : goal.globally-constant-m-requires
-globally-constant-m-requires t c = (omega arith, c.requires.room)
+pub globally-returns-in_err-m : goal.globally-returns-in_err-m
+globally-returns-in_err-m t c = not-binary_full _ _ _ c.in_err-m.was c.from_residual.ensures c.constant.ensures
 
-pub globally-returns-then-m-gt-MAX_NODES : goal.globally-returns-then-m-gt-MAX_NODES
-globally-returns-then-m-gt-MAX_NODES t c = not-binary_full _ _ _ c.if-m-gt-MAX_NODES.true c.constant-m.ensures
-
-pub globally-core_one-n-requires : goal.globally-core_one-n-requires
-globally-core_one-n-requires t c =
-    (omega (arith, c.decreases), (lower _ c.requires (omega arith) (room_after c.requires.room (c.constant-m.ensures.stored c.if-m-gt-MAX_NODES.false)), search rules))
-
-pub globally-returns-then-n-gt-MAX_NODES : goal.globally-returns-then-n-gt-MAX_NODES
-globally-returns-then-n-gt-MAX_NODES t c =
-    not-binary_full_right _ _ _ c.if-n-gt-MAX_NODES.true (c.constant-m.ensures.stored c.if-m-gt-MAX_NODES.false) c.core_one-n.ensures
+pub globally-returns-in_err-n : goal.globally-returns-in_err-n
+globally-returns-in_err-n t c =
+    not-binary_full_right _ _ _ c.in_err-n.was c.from_residual-in_err-n.ensures (c.constant.ensures.stored _ c.in_ok-m.was) c.core_one.ensures
 
 pub globally-join_not-requires : goal.globally-join_not-requires
 globally-join_not-requires t c =
-    ends 11 _ _ (omega arith) c.requires.room (c.constant-m.ensures.stored c.if-m-gt-MAX_NODES.false) (c.core_one-n.ensures.stored c.if-n-gt-MAX_NODES.false)
+    ends 11 _ _ (omega arith) c.requires.room (c.constant.ensures.stored _ c.in_ok-m.was) (c.core_one.ensures.stored _ c.in_ok-n.was)
 
 pub globally-returns : goal.globally-returns
 globally-returns t c =
-    not-binary-wrote _ _ _ (c.constant-m.ensures.stored c.if-m-gt-MAX_NODES.false) (c.core_one-n.ensures.stored c.if-n-gt-MAX_NODES.false) refl c.join_not.ensures
+    not-binary-wrote _ _ _ (c.constant.ensures.stored _ c.in_ok-m.was) (c.core_one.ensures.stored _ c.in_ok-n.was) refl c.join_not.ensures
 
-pub implies-core_one-m-requires : goal.implies-core_one-m-requires
-implies-core_one-m-requires t c = (omega (arith, c.decreases), (lower _ c.requires (omega arith) c.requires.room, search rules))
+pub implies-returns-in_err-m : goal.implies-returns-in_err-m
+implies-returns-in_err-m t c = binary_full _ _ _ c.in_err-m.was c.from_residual.ensures c.core_one.ensures
 
-pub implies-returns-then-m-gt-MAX_NODES : goal.implies-returns-then-m-gt-MAX_NODES
-implies-returns-then-m-gt-MAX_NODES t c = binary_full _ _ _ c.if-m-gt-MAX_NODES.true c.core_one-m.ensures
-
-pub implies-core-n-requires : goal.implies-core-n-requires
-implies-core-n-requires t c =
-    (omega (arith, c.decreases), lower _ c.requires (omega arith) (room_after c.requires.room (c.core_one-m.ensures.stored c.if-m-gt-MAX_NODES.false)))
-
-pub implies-returns-then-n-gt-MAX_NODES : goal.implies-returns-then-n-gt-MAX_NODES
-implies-returns-then-n-gt-MAX_NODES t c =
-    binary_full_right _ _ _ c.if-n-gt-MAX_NODES.true (c.core_one-m.ensures.stored c.if-m-gt-MAX_NODES.false) c.core-n.ensures
+pub implies-returns-in_err-n : goal.implies-returns-in_err-n
+implies-returns-in_err-n t c =
+    binary_full_right _ _ _ c.in_err-n.was c.from_residual-in_err-n.ensures (c.core_one.ensures.stored _ c.in_ok-m.was) c.core.ensures
 
 pub implies-join-requires : goal.implies-join-requires
 implies-join-requires t c =
-    ends 5 _ _ (omega arith) c.requires.room (c.core_one-m.ensures.stored c.if-m-gt-MAX_NODES.false) (c.core-n.ensures.stored c.if-n-gt-MAX_NODES.false)
+    ends 5 _ _ (omega arith) c.requires.room (c.core_one.ensures.stored _ c.in_ok-m.was) (c.core.ensures.stored _ c.in_ok-n.was)
 
 pub implies-returns : goal.implies-returns
 implies-returns t c =
-    binary-wrote _ _ _ (c.core_one-m.ensures.stored c.if-m-gt-MAX_NODES.false) (c.core-n.ensures.stored c.if-n-gt-MAX_NODES.false) refl c.join.ensures
+    binary-wrote _ _ _ (c.core_one.ensures.stored _ c.in_ok-m.was) (c.core.ensures.stored _ c.in_ok-n.was) refl c.join.ensures
 
 pub inner-fields_at-node-requires : goal.inner-fields_at-node-requires
 unfolding core'
@@ -225,10 +171,6 @@ pub inner-core_one-requires : goal.inner-core_one-requires
 unfolding core'
 inner-core_one-requires t c =
     let n = inner-one-at t c in (omega (arith, c.decreases, n.below), (operand c.requires n.below, n.operator))
-
-pub inner-base-requires : goal.inner-base-requires
-unfolding core'
-inner-base-requires t c = search rules
 
 inner-dual-at : (t : ℕ) → (c : goal.inner-After-dual-arg-1 t) → DualStep c.args.nodes.now c.args.i c.fields_at-node.result.first c.fields_at-node.result.second c.base.result
 inner-dual-at t c =
@@ -287,10 +229,6 @@ unfolding core'
 inner-weak-requires t c =
     let n = inner-node-6 t c (binary_kind W) c.in-13.is in (omega (arith, c.decreases, n.lower), operands c.requires n.lower)
 
-pub inner-shape_of-out-in-0 : goal.inner-shape_of-out-in-0
-unfolding core'
-inner-shape_of-out-in-0 t c = search rules
-
 inner-node-7 : (t : ℕ) → (c : goal.inner-After-slice_known-in-0-1 t) → (k : ℕ) → c.fields_at-node.result.kind ≡ k → NodeIs field_limit c.args.nodes.now c.args.i (shape_of k) c.fields_at-node.result.first c.fields_at-node.result.second
 inner-node-7 t c k e = rw e at c.fields_at-node.ensures
 
@@ -298,10 +236,6 @@ pub inner-returns-in-0 : goal.inner-returns-in-0
 unfolding core'
 inner-returns-in-0 t c =
     let n = inner-node-7 t c true_kind c.in-0.is in rw n.tree c.constant.ensures
-
-pub inner-shape_of-out-in-1 : goal.inner-shape_of-out-in-1
-unfolding core'
-inner-shape_of-out-in-1 t c = search rules
 
 inner-node-8 : (t : ℕ) → (c : goal.inner-After-slice_known-in-1-1 t) → (k : ℕ) → c.fields_at-node.result.kind ≡ k → NodeIs field_limit c.args.nodes.now c.args.i (shape_of k) c.fields_at-node.result.first c.fields_at-node.result.second
 inner-node-8 t c k e = rw e at c.fields_at-node.ensures
@@ -311,10 +245,6 @@ unfolding core'
 inner-returns-in-1 t c =
     let n = inner-node-8 t c false_kind c.in-1.is in rw n.tree c.not_true.ensures
 
-pub inner-shape_of-out-in-2 : goal.inner-shape_of-out-in-2
-unfolding core'
-inner-shape_of-out-in-2 t c = search rules
-
 inner-node-9 : (t : ℕ) → (c : goal.inner-After-slice_known-in-2-1 t) → (k : ℕ) → c.fields_at-node.result.kind ≡ k → NodeIs field_limit c.args.nodes.now c.args.i (shape_of k) c.fields_at-node.result.first c.fields_at-node.result.second
 inner-node-9 t c k e = rw e at c.fields_at-node.ensures
 
@@ -323,10 +253,6 @@ unfolding core'
 inner-returns-in-2 t c =
     let n = inner-node-9 t c signal_kind c.in-2.is in rw n.tree c.signal.ensures
 
-pub inner-shape_of-out-in-3 : goal.inner-shape_of-out-in-3
-unfolding core'
-inner-shape_of-out-in-3 t c = search rules
-
 inner-one-at-2 : (t : ℕ) → (c : goal.inner-After-slice_known-in-3-1 t) → OneStep core' c.args.nodes.now c.args.i c.fields_at-node.result.first c.fields_at-node.result.kind
 inner-one-at-2 t c = core-one c.fields_at-node.result.kind c.in-3.is c.fields_at-node.ensures
 
@@ -334,10 +260,6 @@ pub inner-returns-in-3 : goal.inner-returns-in-3
 unfolding core'
 inner-returns-in-3 t c =
     rw (inner-one-at-2 t c).tree c.core_one.ensures
-
-pub inner-shape_of-out-in-4 : goal.inner-shape_of-out-in-4
-unfolding core'
-inner-shape_of-out-in-4 t c = search rules
 
 inner-dual-at-2 : (t : ℕ) → (c : goal.inner-After-slice_known-in-4-1 t) → DualStep c.args.nodes.now c.args.i c.fields_at-node.result.first c.fields_at-node.result.second c.base.result
 inner-dual-at-2 t c =
@@ -348,10 +270,6 @@ unfolding core'
 inner-returns-in-4 t c =
     rw (inner-dual-at-2 t c).tree c.dual.ensures
 
-pub inner-shape_of-out-in-5 : goal.inner-shape_of-out-in-5
-unfolding core'
-inner-shape_of-out-in-5 t c = search rules
-
 inner-two-at-2 : (t : ℕ) → (c : goal.inner-After-slice_known-in-5-1 t) → TwoStep core' c.args.nodes.now c.args.i c.fields_at-node.result.first c.fields_at-node.result.second c.fields_at-node.result.kind
 inner-two-at-2 t c = core-two c.fields_at-node.result.kind c.in-5.is c.fields_at-node.ensures
 
@@ -359,10 +277,6 @@ pub inner-returns-in-5 : goal.inner-returns-in-5
 unfolding core'
 inner-returns-in-5 t c =
     rw (inner-two-at-2 t c).tree c.core_both.ensures
-
-pub inner-shape_of-out-in-6 : goal.inner-shape_of-out-in-6
-unfolding core'
-inner-shape_of-out-in-6 t c = search rules
 
 inner-node-10 : (t : ℕ) → (c : goal.inner-After-slice_known-in-6-1 t) → (k : ℕ) → c.fields_at-node.result.kind ≡ k → NodeIs field_limit c.args.nodes.now c.args.i (shape_of k) c.fields_at-node.result.first c.fields_at-node.result.second
 inner-node-10 t c k e = rw e at c.fields_at-node.ensures
@@ -372,10 +286,6 @@ unfolding core'
 inner-returns-in-6 t c =
     let n = inner-node-10 t c (binary_kind Implies) c.in-6.is in rw n.tree c.implies.ensures
 
-pub inner-shape_of-out-in-7 : goal.inner-shape_of-out-in-7
-unfolding core'
-inner-shape_of-out-in-7 t c = search rules
-
 inner-node-11 : (t : ℕ) → (c : goal.inner-After-slice_known-in-7-1 t) → (k : ℕ) → c.fields_at-node.result.kind ≡ k → NodeIs field_limit c.args.nodes.now c.args.i (shape_of k) c.fields_at-node.result.first c.fields_at-node.result.second
 inner-node-11 t c k e = rw e at c.fields_at-node.ensures
 
@@ -383,10 +293,6 @@ pub inner-returns-in-7 : goal.inner-returns-in-7
 unfolding core'
 inner-returns-in-7 t c =
     let n = inner-node-11 t c (binary_kind Iff) c.in-7.is in rw n.tree c.equal.ensures
-
-pub inner-shape_of-out-in-9 : goal.inner-shape_of-out-in-9
-unfolding core'
-inner-shape_of-out-in-9 t c = search rules
 
 inner-node-12 : (t : ℕ) → (c : goal.inner-After-slice_known-in-9-1 t) → (k : ℕ) → c.fields_at-node.result.kind ≡ k → NodeIs field_limit c.args.nodes.now c.args.i (shape_of k) c.fields_at-node.result.first c.fields_at-node.result.second
 inner-node-12 t c k e = rw e at c.fields_at-node.ensures
@@ -396,10 +302,6 @@ unfolding core'
 inner-returns-in-9 t c =
     let n = inner-node-12 t c (unary_kind G) c.in-9.is in rw n.tree c.globally.ensures
 
-pub inner-shape_of-out-in-10 : goal.inner-shape_of-out-in-10
-unfolding core'
-inner-shape_of-out-in-10 t c = search rules
-
 inner-node-13 : (t : ℕ) → (c : goal.inner-After-slice_known-in-10-1 t) → (k : ℕ) → c.fields_at-node.result.kind ≡ k → NodeIs field_limit c.args.nodes.now c.args.i (shape_of k) c.fields_at-node.result.first c.fields_at-node.result.second
 inner-node-13 t c k e = rw e at c.fields_at-node.ensures
 
@@ -407,10 +309,6 @@ pub inner-returns-in-10 : goal.inner-returns-in-10
 unfolding core'
 inner-returns-in-10 t c =
     let n = inner-node-13 t c (unary_kind F) c.in-10.is in rw n.tree c.finally.ensures
-
-pub inner-shape_of-out-in-13 : goal.inner-shape_of-out-in-13
-unfolding core'
-inner-shape_of-out-in-13 t c = search rules
 
 inner-node-14 : (t : ℕ) → (c : goal.inner-After-slice_known-in-13-1 t) → (k : ℕ) → c.fields_at-node.result.kind ≡ k → NodeIs field_limit c.args.nodes.now c.args.i (shape_of k) c.fields_at-node.result.first c.fields_at-node.result.second
 inner-node-14 t c k e = rw e at c.fields_at-node.ensures
@@ -439,42 +337,31 @@ inner_none t c =
       weak.1,
     )
 
-pub inner-returns-in_default : goal.inner-returns-in_default
-unfolding core'
-inner-returns-in_default t c = absurd (inner_none t c)
+pub inner-unreachable-requires : goal.inner-unreachable-requires
+inner-unreachable-requires t c = inner_none t c
 
-pub not_implies-implies-m-requires : goal.not_implies-implies-m-requires
-not_implies-implies-m-requires t c = (omega (arith, c.decreases), lower _ c.requires (omega arith) c.requires.room)
-
-pub not_implies-returns-then-m-gt-MAX_NODES : goal.not_implies-returns-then-m-gt-MAX_NODES
-not_implies-returns-then-m-gt-MAX_NODES t c = unary_full _ _ c.if-m-gt-MAX_NODES.true c.implies-m.ensures
+pub not_implies-returns-in_err-m : goal.not_implies-returns-in_err-m
+not_implies-returns-in_err-m t c = unary_full _ _ c.in_err-m.was c.from_residual.ensures c.implies.ensures
 
 pub not_implies-cap-requires : goal.not_implies-cap-requires
 not_implies-cap-requires t c =
-    end 3 _ (omega arith) c.requires.room (c.implies-m.ensures.stored c.if-m-gt-MAX_NODES.false)
+    end 3 _ (omega arith) c.requires.room (c.implies.ensures.stored _ c.in_ok-m.was)
 
 pub not_implies-returns : goal.not_implies-returns
 not_implies-returns t c =
-    unary-wrote _ _ (c.implies-m.ensures.stored c.if-m-gt-MAX_NODES.false) refl c.cap.ensures
+    unary-wrote _ _ (c.implies.ensures.stored _ c.in_ok-m.was) refl c.cap.ensures
 
-pub weak-core_both-m-requires : goal.weak-core_both-m-requires
-weak-core_both-m-requires t c = (omega (arith, c.decreases), (lower _ c.requires (omega arith) c.requires.room, search rules))
+pub weak-returns-in_err-m : goal.weak-returns-in_err-m
+weak-returns-in_err-m t c = binary_full _ _ _ c.in_err-m.was c.from_residual.ensures c.core_both.ensures
 
-pub weak-returns-then-m-gt-MAX_NODES : goal.weak-returns-then-m-gt-MAX_NODES
-weak-returns-then-m-gt-MAX_NODES t c = binary_full _ _ _ c.if-m-gt-MAX_NODES.true c.core_both-m.ensures
-
-pub weak-globally-n-requires : goal.weak-globally-n-requires
-weak-globally-n-requires t c =
-    (omega (arith, c.decreases), lower _ c.requires (omega arith) (room_after c.requires.room (c.core_both-m.ensures.stored c.if-m-gt-MAX_NODES.false)))
-
-pub weak-returns-then-n-gt-MAX_NODES : goal.weak-returns-then-n-gt-MAX_NODES
-weak-returns-then-n-gt-MAX_NODES t c =
-    binary_full_right _ _ _ c.if-n-gt-MAX_NODES.true (c.core_both-m.ensures.stored c.if-m-gt-MAX_NODES.false) c.globally-n.ensures
+pub weak-returns-in_err-n : goal.weak-returns-in_err-n
+weak-returns-in_err-n t c =
+    binary_full_right _ _ _ c.in_err-n.was c.from_residual-in_err-n.ensures (c.core_both.ensures.stored _ c.in_ok-m.was) c.globally.ensures
 
 pub weak-join-requires : goal.weak-join-requires
 weak-join-requires t c =
-    ends 5 _ _ (omega arith) c.requires.room (c.core_both-m.ensures.stored c.if-m-gt-MAX_NODES.false) (c.globally-n.ensures.stored c.if-n-gt-MAX_NODES.false)
+    ends 5 _ _ (omega arith) c.requires.room (c.core_both.ensures.stored _ c.in_ok-m.was) (c.globally.ensures.stored _ c.in_ok-n.was)
 
 pub weak-returns : goal.weak-returns
 weak-returns t c =
-    binary-wrote _ _ _ (c.core_both-m.ensures.stored c.if-m-gt-MAX_NODES.false) (c.globally-n.ensures.stored c.if-n-gt-MAX_NODES.false) refl c.join.ensures
+    binary-wrote _ _ _ (c.core_both.ensures.stored _ c.in_ok-m.was) (c.globally.ensures.stored _ c.in_ok-n.was) refl c.join.ensures

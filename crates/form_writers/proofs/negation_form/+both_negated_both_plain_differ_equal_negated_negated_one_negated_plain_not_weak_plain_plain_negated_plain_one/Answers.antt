@@ -9,99 +9,71 @@ use Rattle.node.specs.Kinds.{shape_of, unary_kind, true_kind, false_kind, signal
 use Rattle.node.specs.Formed.{NodeIs}
 use Rattle.node.proofs.TableLaws.{rest-above}
 use Rattle.forms.specs.Forms.{plain as plain', negated as negated'}
-use Rattle.form_writers.specs.WritingLaws.{operand, operands, lower}
+use Rattle.form_writers.specs.WritingLaws.{operand, operands}
 use Rattle.form_writers.specs.KeptLaws.{OfOne, OfTwo, OneStep, TwoStep, one-step, two-step, of_two, plain-one, plain-two, negated-one, negated-two}
-use Rattle.storing.specs.StoringLaws.{room_after, unary_full, unary-wrote, end, binary_full, binary_full_right, binary-wrote, ends}
+use Rattle.storing.specs.StoringLaws.{unary_full, unary-wrote, end, binary_full, binary_full_right, binary-wrote, ends}
 use Rattle.form_writers.proofs.negation_form.+both_negated_both_plain_differ_equal_negated_negated_one_negated_plain_not_weak_plain_plain_negated_plain_one.Goals.{negated-in_default-via-then-k-lt6, negated-in_default-via-else-k-lt6+else-k-lt11, plain-in_default-via-then-k-lt6, plain-in_default-via-else-k-lt6+else-k-lt11}
 use Rattle.form_writers.proofs.negation_form.+both_negated_both_plain_differ_equal_negated_negated_one_negated_plain_not_weak_plain_plain_negated_plain_one.Goals as goal
 
-pub both_negated-negated-m-requires : goal.both_negated-negated-m-requires
-both_negated-negated-m-requires t c = (omega (arith, c.decreases), lower _ c.requires.ready (omega arith) c.requires.ready.room)
+pub both_negated-returns-in_err-m : goal.both_negated-returns-in_err-m
+both_negated-returns-in_err-m t c = binary_full _ _ _ c.in_err-m.was c.from_residual.ensures c.negated.ensures
 
-pub both_negated-returns-then-m-gt-MAX_NODES : goal.both_negated-returns-then-m-gt-MAX_NODES
-both_negated-returns-then-m-gt-MAX_NODES t c = binary_full _ _ _ c.if-m-gt-MAX_NODES.true c.negated-m.ensures
-
-pub both_negated-negated-n-requires : goal.both_negated-negated-n-requires
-both_negated-negated-n-requires t c =
-    (omega (arith, c.decreases), lower _ c.requires.ready (omega arith) (room_after c.requires.ready.room (c.negated-m.ensures.stored c.if-m-gt-MAX_NODES.false)))
-
-pub both_negated-returns-then-n-gt-MAX_NODES : goal.both_negated-returns-then-n-gt-MAX_NODES
-both_negated-returns-then-n-gt-MAX_NODES t c =
-    binary_full_right _ _ _ c.if-n-gt-MAX_NODES.true (c.negated-m.ensures.stored c.if-m-gt-MAX_NODES.false) c.negated-n.ensures
+pub both_negated-returns-in_err-n : goal.both_negated-returns-in_err-n
+both_negated-returns-in_err-n t c =
+    binary_full_right _ _ _ c.in_err-n.was c.from_residual-in_err-n.ensures (c.negated.ensures.stored _ c.in_ok-m.was) c.negated-2.ensures
 
 pub both_negated-join-requires : goal.both_negated-join-requires
 both_negated-join-requires t c =
-    ends _ _ _ c.requires.binary.small c.requires.ready.room (c.negated-m.ensures.stored c.if-m-gt-MAX_NODES.false) (c.negated-n.ensures.stored c.if-n-gt-MAX_NODES.false)
+    ends _ _ _ c.requires.binary.small c.requires.ready.room (c.negated.ensures.stored _ c.in_ok-m.was) (c.negated-2.ensures.stored _ c.in_ok-n.was)
 
 pub both_negated-returns : goal.both_negated-returns
 both_negated-returns t c =
-    binary-wrote _ _ _ (c.negated-m.ensures.stored c.if-m-gt-MAX_NODES.false) (c.negated-n.ensures.stored c.if-n-gt-MAX_NODES.false) c.requires.binary.number c.join.ensures
+    binary-wrote _ _ _ (c.negated.ensures.stored _ c.in_ok-m.was) (c.negated-2.ensures.stored _ c.in_ok-n.was) c.requires.binary.number c.join.ensures
 
-pub both_plain-plain-m-requires : goal.both_plain-plain-m-requires
-both_plain-plain-m-requires t c = (omega (arith, c.decreases), lower _ c.requires.ready (omega arith) c.requires.ready.room)
+pub both_plain-returns-in_err-m : goal.both_plain-returns-in_err-m
+both_plain-returns-in_err-m t c = binary_full _ _ _ c.in_err-m.was c.from_residual.ensures c.plain.ensures
 
-pub both_plain-returns-then-m-gt-MAX_NODES : goal.both_plain-returns-then-m-gt-MAX_NODES
-both_plain-returns-then-m-gt-MAX_NODES t c = binary_full _ _ _ c.if-m-gt-MAX_NODES.true c.plain-m.ensures
-
-pub both_plain-plain-n-requires : goal.both_plain-plain-n-requires
-both_plain-plain-n-requires t c =
-    (omega (arith, c.decreases), lower _ c.requires.ready (omega arith) (room_after c.requires.ready.room (c.plain-m.ensures.stored c.if-m-gt-MAX_NODES.false)))
-
-pub both_plain-returns-then-n-gt-MAX_NODES : goal.both_plain-returns-then-n-gt-MAX_NODES
-both_plain-returns-then-n-gt-MAX_NODES t c =
-    binary_full_right _ _ _ c.if-n-gt-MAX_NODES.true (c.plain-m.ensures.stored c.if-m-gt-MAX_NODES.false) c.plain-n.ensures
+pub both_plain-returns-in_err-n : goal.both_plain-returns-in_err-n
+both_plain-returns-in_err-n t c =
+    binary_full_right _ _ _ c.in_err-n.was c.from_residual-in_err-n.ensures (c.plain.ensures.stored _ c.in_ok-m.was) c.plain-2.ensures
 
 pub both_plain-join-requires : goal.both_plain-join-requires
 both_plain-join-requires t c =
-    ends _ _ _ c.requires.binary.small c.requires.ready.room (c.plain-m.ensures.stored c.if-m-gt-MAX_NODES.false) (c.plain-n.ensures.stored c.if-n-gt-MAX_NODES.false)
+    ends _ _ _ c.requires.binary.small c.requires.ready.room (c.plain.ensures.stored _ c.in_ok-m.was) (c.plain-2.ensures.stored _ c.in_ok-n.was)
 
 pub both_plain-returns : goal.both_plain-returns
 both_plain-returns t c =
-    binary-wrote _ _ _ (c.plain-m.ensures.stored c.if-m-gt-MAX_NODES.false) (c.plain-n.ensures.stored c.if-n-gt-MAX_NODES.false) c.requires.binary.number c.join.ensures
+    binary-wrote _ _ _ (c.plain.ensures.stored _ c.in_ok-m.was) (c.plain-2.ensures.stored _ c.in_ok-n.was) c.requires.binary.number c.join.ensures
 
-pub differ-plain_negated-m-requires : goal.differ-plain_negated-m-requires
-differ-plain_negated-m-requires t c = (omega (arith, c.decreases), (lower _ c.requires (omega arith) c.requires.room, search rules))
+pub differ-returns-in_err-m : goal.differ-returns-in_err-m
+differ-returns-in_err-m t c = binary_full _ _ _ c.in_err-m.was c.from_residual.ensures c.plain_negated.ensures
 
-pub differ-returns-then-m-gt-MAX_NODES : goal.differ-returns-then-m-gt-MAX_NODES
-differ-returns-then-m-gt-MAX_NODES t c = binary_full _ _ _ c.if-m-gt-MAX_NODES.true c.plain_negated-m.ensures
-
-pub differ-negated_plain-n-requires : goal.differ-negated_plain-n-requires
-differ-negated_plain-n-requires t c =
-    (omega (arith, c.decreases), (lower _ c.requires (omega arith) (room_after c.requires.room (c.plain_negated-m.ensures.stored c.if-m-gt-MAX_NODES.false)), search rules))
-
-pub differ-returns-then-n-gt-MAX_NODES : goal.differ-returns-then-n-gt-MAX_NODES
-differ-returns-then-n-gt-MAX_NODES t c =
-    binary_full_right _ _ _ c.if-n-gt-MAX_NODES.true (c.plain_negated-m.ensures.stored c.if-m-gt-MAX_NODES.false) c.negated_plain-n.ensures
+pub differ-returns-in_err-n : goal.differ-returns-in_err-n
+differ-returns-in_err-n t c =
+    binary_full_right _ _ _ c.in_err-n.was c.from_residual-in_err-n.ensures (c.plain_negated.ensures.stored _ c.in_ok-m.was) c.negated_plain.ensures
 
 pub differ-join-requires : goal.differ-join-requires
 differ-join-requires t c =
-    ends 5 _ _ (omega arith) c.requires.room (c.plain_negated-m.ensures.stored c.if-m-gt-MAX_NODES.false) (c.negated_plain-n.ensures.stored c.if-n-gt-MAX_NODES.false)
+    ends 5 _ _ (omega arith) c.requires.room (c.plain_negated.ensures.stored _ c.in_ok-m.was) (c.negated_plain.ensures.stored _ c.in_ok-n.was)
 
 pub differ-returns : goal.differ-returns
 differ-returns t c =
-    binary-wrote _ _ _ (c.plain_negated-m.ensures.stored c.if-m-gt-MAX_NODES.false) (c.negated_plain-n.ensures.stored c.if-n-gt-MAX_NODES.false) refl c.join.ensures
+    binary-wrote _ _ _ (c.plain_negated.ensures.stored _ c.in_ok-m.was) (c.negated_plain.ensures.stored _ c.in_ok-n.was) refl c.join.ensures
 
-pub equal-both_plain-m-requires : goal.equal-both_plain-m-requires
-equal-both_plain-m-requires t c = (omega (arith, c.decreases), (lower _ c.requires (omega arith) c.requires.room, search rules))
+pub equal-returns-in_err-m : goal.equal-returns-in_err-m
+equal-returns-in_err-m t c = binary_full _ _ _ c.in_err-m.was c.from_residual.ensures c.both_plain.ensures
 
-pub equal-returns-then-m-gt-MAX_NODES : goal.equal-returns-then-m-gt-MAX_NODES
-equal-returns-then-m-gt-MAX_NODES t c = binary_full _ _ _ c.if-m-gt-MAX_NODES.true c.both_plain-m.ensures
-
-pub equal-both_negated-n-requires : goal.equal-both_negated-n-requires
-equal-both_negated-n-requires t c =
-    (omega (arith, c.decreases), (lower _ c.requires (omega arith) (room_after c.requires.room (c.both_plain-m.ensures.stored c.if-m-gt-MAX_NODES.false)), search rules))
-
-pub equal-returns-then-n-gt-MAX_NODES : goal.equal-returns-then-n-gt-MAX_NODES
-equal-returns-then-n-gt-MAX_NODES t c =
-    binary_full_right _ _ _ c.if-n-gt-MAX_NODES.true (c.both_plain-m.ensures.stored c.if-m-gt-MAX_NODES.false) c.both_negated-n.ensures
+pub equal-returns-in_err-n : goal.equal-returns-in_err-n
+equal-returns-in_err-n t c =
+    binary_full_right _ _ _ c.in_err-n.was c.from_residual-in_err-n.ensures (c.both_plain.ensures.stored _ c.in_ok-m.was) c.both_negated.ensures
 
 pub equal-join-requires : goal.equal-join-requires
 equal-join-requires t c =
-    ends 5 _ _ (omega arith) c.requires.room (c.both_plain-m.ensures.stored c.if-m-gt-MAX_NODES.false) (c.both_negated-n.ensures.stored c.if-n-gt-MAX_NODES.false)
+    ends 5 _ _ (omega arith) c.requires.room (c.both_plain.ensures.stored _ c.in_ok-m.was) (c.both_negated.ensures.stored _ c.in_ok-n.was)
 
 pub equal-returns : goal.equal-returns
 equal-returns t c =
-    binary-wrote _ _ _ (c.both_plain-m.ensures.stored c.if-m-gt-MAX_NODES.false) (c.both_negated-n.ensures.stored c.if-n-gt-MAX_NODES.false) refl c.join.ensures
+    binary-wrote _ _ _ (c.both_plain.ensures.stored _ c.in_ok-m.was) (c.both_negated.ensures.stored _ c.in_ok-n.was) refl c.join.ensures
 
 pub negated-fields_at-node-requires : goal.negated-fields_at-node-requires
 unfolding plain' negated'
@@ -155,10 +127,6 @@ unfolding plain' negated'
 negated-not_weak-requires t c =
     let n = negated-node-5 t c (binary_kind W) c.in-13.is in (omega (arith, c.decreases, n.lower), operands c.requires n.lower)
 
-pub negated-dual-requires : goal.negated-dual-requires
-unfolding plain' negated'
-negated-dual-requires t c = search rules
-
 negated_ones_at : (t : ℕ) → (c : goal.negated-After-negated_one-arg-1 t) → OneStep negated' c.args.nodes.now c.args.i c.fields_at-node.result.first c.dual.result
 negated_ones_at t c =
     let h : OfOne c.fields_at-node.result.kind = (omega arith, omega arith) in
@@ -168,10 +136,6 @@ pub negated-negated_one-requires : goal.negated-negated_one-requires
 unfolding plain' negated'
 negated-negated_one-requires t c =
     let n = negated_ones_at t c in (omega (arith, c.decreases, n.below), (operand c.requires n.below, n.operator))
-
-pub negated-dual-requires-in_default : goal.negated-dual-requires-in_default
-unfolding plain' negated'
-negated-dual-requires-in_default t c = search rules
 
 negated_twos_at : (t : ℕ) → (c : goal.negated-After-both_negated-arg-1 t) → TwoStep negated' c.args.nodes.now c.args.i c.fields_at-node.result.first c.fields_at-node.result.second c.dual-in_default.result
 negated_twos_at t c =
@@ -188,10 +152,6 @@ unfolding plain' negated'
 negated-both_negated-requires t c =
     let n = negated_twos_at t c in (omega (arith, c.decreases, n.below), (operands c.requires n.below, n.operator))
 
-pub negated-shape_of-out-in-0 : goal.negated-shape_of-out-in-0
-unfolding plain' negated'
-negated-shape_of-out-in-0 t c = search rules
-
 negated-node-6 : (t : ℕ) → (c : goal.negated-After-slice_known-in-0-1 t) → (k : ℕ) → c.fields_at-node.result.kind ≡ k → NodeIs field_limit c.args.nodes.now c.args.i (shape_of k) c.fields_at-node.result.first c.fields_at-node.result.second
 negated-node-6 t c k e = rw e at c.fields_at-node.ensures
 
@@ -199,10 +159,6 @@ pub negated-returns-in-0 : goal.negated-returns-in-0
 unfolding plain' negated'
 negated-returns-in-0 t c =
     let n = negated-node-6 t c true_kind c.in-0.is in rw n.tree c.constant.ensures
-
-pub negated-shape_of-out-in-1 : goal.negated-shape_of-out-in-1
-unfolding plain' negated'
-negated-shape_of-out-in-1 t c = search rules
 
 negated-node-7 : (t : ℕ) → (c : goal.negated-After-slice_known-in-1-1 t) → (k : ℕ) → c.fields_at-node.result.kind ≡ k → NodeIs field_limit c.args.nodes.now c.args.i (shape_of k) c.fields_at-node.result.first c.fields_at-node.result.second
 negated-node-7 t c k e = rw e at c.fields_at-node.ensures
@@ -212,10 +168,6 @@ unfolding plain' negated'
 negated-returns-in-1 t c =
     let n = negated-node-7 t c false_kind c.in-1.is in rw n.tree c.constant-in-1.ensures
 
-pub negated-shape_of-out-in-2 : goal.negated-shape_of-out-in-2
-unfolding plain' negated'
-negated-shape_of-out-in-2 t c = search rules
-
 negated-node-8 : (t : ℕ) → (c : goal.negated-After-slice_known-in-2-1 t) → (k : ℕ) → c.fields_at-node.result.kind ≡ k → NodeIs field_limit c.args.nodes.now c.args.i (shape_of k) c.fields_at-node.result.first c.fields_at-node.result.second
 negated-node-8 t c k e = rw e at c.fields_at-node.ensures
 
@@ -223,10 +175,6 @@ pub negated-returns-in-2 : goal.negated-returns-in-2
 unfolding plain' negated'
 negated-returns-in-2 t c =
     let n = negated-node-8 t c signal_kind c.in-2.is in rw n.tree c.not_signal.ensures
-
-pub negated-shape_of-out-in-3 : goal.negated-shape_of-out-in-3
-unfolding plain' negated'
-negated-shape_of-out-in-3 t c = search rules
 
 negated-node-9 : (t : ℕ) → (c : goal.negated-After-slice_known-in-3-1 t) → (k : ℕ) → c.fields_at-node.result.kind ≡ k → NodeIs field_limit c.args.nodes.now c.args.i (shape_of k) c.fields_at-node.result.first c.fields_at-node.result.second
 negated-node-9 t c k e = rw e at c.fields_at-node.ensures
@@ -236,10 +184,6 @@ unfolding plain' negated'
 negated-returns-in-3 t c =
     let n = negated-node-9 t c (unary_kind Not) c.in-3.is in rw n.tree c.plain.ensures
 
-pub negated-shape_of-out-in-6 : goal.negated-shape_of-out-in-6
-unfolding plain' negated'
-negated-shape_of-out-in-6 t c = search rules
-
 negated-node-10 : (t : ℕ) → (c : goal.negated-After-slice_known-in-6-1 t) → (k : ℕ) → c.fields_at-node.result.kind ≡ k → NodeIs field_limit c.args.nodes.now c.args.i (shape_of k) c.fields_at-node.result.first c.fields_at-node.result.second
 negated-node-10 t c k e = rw e at c.fields_at-node.ensures
 
@@ -247,10 +191,6 @@ pub negated-returns-in-6 : goal.negated-returns-in-6
 unfolding plain' negated'
 negated-returns-in-6 t c =
     let n = negated-node-10 t c (binary_kind Implies) c.in-6.is in rw n.tree c.plain_negated.ensures
-
-pub negated-shape_of-out-in-7 : goal.negated-shape_of-out-in-7
-unfolding plain' negated'
-negated-shape_of-out-in-7 t c = search rules
 
 negated-node-11 : (t : ℕ) → (c : goal.negated-After-slice_known-in-7-1 t) → (k : ℕ) → c.fields_at-node.result.kind ≡ k → NodeIs field_limit c.args.nodes.now c.args.i (shape_of k) c.fields_at-node.result.first c.fields_at-node.result.second
 negated-node-11 t c k e = rw e at c.fields_at-node.ensures
@@ -260,10 +200,6 @@ unfolding plain' negated'
 negated-returns-in-7 t c =
     let n = negated-node-11 t c (binary_kind Iff) c.in-7.is in rw n.tree c.differ.ensures
 
-pub negated-shape_of-out-in-13 : goal.negated-shape_of-out-in-13
-unfolding plain' negated'
-negated-shape_of-out-in-13 t c = search rules
-
 negated-node-12 : (t : ℕ) → (c : goal.negated-After-slice_known-in-13-1 t) → (k : ℕ) → c.fields_at-node.result.kind ≡ k → NodeIs field_limit c.args.nodes.now c.args.i (shape_of k) c.fields_at-node.result.first c.fields_at-node.result.second
 negated-node-12 t c k e = rw e at c.fields_at-node.ensures
 
@@ -271,10 +207,6 @@ pub negated-returns-in-13 : goal.negated-returns-in-13
 unfolding plain' negated'
 negated-returns-in-13 t c =
     let n = negated-node-12 t c (binary_kind W) c.in-13.is in rw n.tree c.not_weak.ensures
-
-pub negated-shape_of-out-in-8-to-10 : goal.negated-shape_of-out-in-8-to-10
-unfolding plain' negated'
-negated-shape_of-out-in-8-to-10 t c = search rules
 
 negated_ones_at-2 : (t : ℕ) → (c : goal.negated-After-slice_known-then-k-lt11-1 t) → OneStep negated' c.args.nodes.now c.args.i c.fields_at-node.result.first c.dual.result
 negated_ones_at-2 t c =
@@ -285,10 +217,6 @@ pub negated-returns-in-8-to-10 : goal.negated-returns-in-8-to-10
 unfolding plain' negated'
 negated-returns-in-8-to-10 t c =
     rw (negated_ones_at-2 t c).tree c.negated_one.ensures
-
-pub negated-shape_of-out-in_default : goal.negated-shape_of-out-in_default
-unfolding plain' negated'
-negated-shape_of-out-in_default t c = search rules
 
 negated_twos_at-2 : (t : ℕ) → (c : goal.negated-After-slice_known-in_default-1 t) → TwoStep negated' c.args.nodes.now c.args.i c.fields_at-node.result.first c.fields_at-node.result.second c.dual-in_default.result
 negated_twos_at-2 t c =
@@ -305,63 +233,46 @@ unfolding plain' negated'
 negated-returns-in_default t c =
     rw (negated_twos_at-2 t c).tree c.both_negated.ensures
 
-pub negated_one-negated-m-requires : goal.negated_one-negated-m-requires
-negated_one-negated-m-requires t c = (omega (arith, c.decreases), lower _ c.requires.ready (omega arith) c.requires.ready.room)
-
-pub negated_one-returns-then-m-gt-MAX_NODES : goal.negated_one-returns-then-m-gt-MAX_NODES
-negated_one-returns-then-m-gt-MAX_NODES t c = unary_full _ _ c.if-m-gt-MAX_NODES.true c.negated-m.ensures
+pub negated_one-returns-in_err-m : goal.negated_one-returns-in_err-m
+negated_one-returns-in_err-m t c = unary_full _ _ c.in_err-m.was c.from_residual.ensures c.negated.ensures
 
 pub negated_one-cap-requires : goal.negated_one-cap-requires
 negated_one-cap-requires t c =
-    end _ _ c.requires.unary.small c.requires.ready.room (c.negated-m.ensures.stored c.if-m-gt-MAX_NODES.false)
+    end _ _ c.requires.unary.small c.requires.ready.room (c.negated.ensures.stored _ c.in_ok-m.was)
 
 pub negated_one-returns : goal.negated_one-returns
 negated_one-returns t c =
-    unary-wrote _ _ (c.negated-m.ensures.stored c.if-m-gt-MAX_NODES.false) c.requires.unary.number c.cap.ensures
+    unary-wrote _ _ (c.negated.ensures.stored _ c.in_ok-m.was) c.requires.unary.number c.cap.ensures
 
-pub negated_plain-negated-m-requires : goal.negated_plain-negated-m-requires
-negated_plain-negated-m-requires t c = (omega (arith, c.decreases), lower _ c.requires.ready (omega arith) c.requires.ready.room)
+pub negated_plain-returns-in_err-m : goal.negated_plain-returns-in_err-m
+negated_plain-returns-in_err-m t c = binary_full _ _ _ c.in_err-m.was c.from_residual.ensures c.negated.ensures
 
-pub negated_plain-returns-then-m-gt-MAX_NODES : goal.negated_plain-returns-then-m-gt-MAX_NODES
-negated_plain-returns-then-m-gt-MAX_NODES t c = binary_full _ _ _ c.if-m-gt-MAX_NODES.true c.negated-m.ensures
-
-pub negated_plain-plain-n-requires : goal.negated_plain-plain-n-requires
-negated_plain-plain-n-requires t c =
-    (omega (arith, c.decreases), lower _ c.requires.ready (omega arith) (room_after c.requires.ready.room (c.negated-m.ensures.stored c.if-m-gt-MAX_NODES.false)))
-
-pub negated_plain-returns-then-n-gt-MAX_NODES : goal.negated_plain-returns-then-n-gt-MAX_NODES
-negated_plain-returns-then-n-gt-MAX_NODES t c =
-    binary_full_right _ _ _ c.if-n-gt-MAX_NODES.true (c.negated-m.ensures.stored c.if-m-gt-MAX_NODES.false) c.plain-n.ensures
+pub negated_plain-returns-in_err-n : goal.negated_plain-returns-in_err-n
+negated_plain-returns-in_err-n t c =
+    binary_full_right _ _ _ c.in_err-n.was c.from_residual-in_err-n.ensures (c.negated.ensures.stored _ c.in_ok-m.was) c.plain.ensures
 
 pub negated_plain-join-requires : goal.negated_plain-join-requires
 negated_plain-join-requires t c =
-    ends _ _ _ c.requires.binary.small c.requires.ready.room (c.negated-m.ensures.stored c.if-m-gt-MAX_NODES.false) (c.plain-n.ensures.stored c.if-n-gt-MAX_NODES.false)
+    ends _ _ _ c.requires.binary.small c.requires.ready.room (c.negated.ensures.stored _ c.in_ok-m.was) (c.plain.ensures.stored _ c.in_ok-n.was)
 
 pub negated_plain-returns : goal.negated_plain-returns
 negated_plain-returns t c =
-    binary-wrote _ _ _ (c.negated-m.ensures.stored c.if-m-gt-MAX_NODES.false) (c.plain-n.ensures.stored c.if-n-gt-MAX_NODES.false) c.requires.binary.number c.join.ensures
+    binary-wrote _ _ _ (c.negated.ensures.stored _ c.in_ok-m.was) (c.plain.ensures.stored _ c.in_ok-n.was) c.requires.binary.number c.join.ensures
 
-pub not_weak-negated-m-requires : goal.not_weak-negated-m-requires
-not_weak-negated-m-requires t c = (omega (arith, c.decreases), lower _ c.requires (omega arith) c.requires.room)
+pub not_weak-returns-in_err-m : goal.not_weak-returns-in_err-m
+not_weak-returns-in_err-m t c = binary_full _ _ _ c.in_err-m.was c.from_residual.ensures c.negated.ensures
 
-pub not_weak-returns-then-m-gt-MAX_NODES : goal.not_weak-returns-then-m-gt-MAX_NODES
-not_weak-returns-then-m-gt-MAX_NODES t c = binary_full _ _ _ c.if-m-gt-MAX_NODES.true c.negated-m.ensures
-
-pub not_weak-both_negated-n-requires : goal.not_weak-both_negated-n-requires
-not_weak-both_negated-n-requires t c =
-    (omega (arith, c.decreases), (lower _ c.requires (omega arith) (room_after c.requires.room (c.negated-m.ensures.stored c.if-m-gt-MAX_NODES.false)), search rules))
-
-pub not_weak-returns-then-n-gt-MAX_NODES : goal.not_weak-returns-then-n-gt-MAX_NODES
-not_weak-returns-then-n-gt-MAX_NODES t c =
-    binary_full_right _ _ _ c.if-n-gt-MAX_NODES.true (c.negated-m.ensures.stored c.if-m-gt-MAX_NODES.false) c.both_negated-n.ensures
+pub not_weak-returns-in_err-n : goal.not_weak-returns-in_err-n
+not_weak-returns-in_err-n t c =
+    binary_full_right _ _ _ c.in_err-n.was c.from_residual-in_err-n.ensures (c.negated.ensures.stored _ c.in_ok-m.was) c.both_negated.ensures
 
 pub not_weak-join-requires : goal.not_weak-join-requires
 not_weak-join-requires t c =
-    ends 11 _ _ (omega arith) c.requires.room (c.negated-m.ensures.stored c.if-m-gt-MAX_NODES.false) (c.both_negated-n.ensures.stored c.if-n-gt-MAX_NODES.false)
+    ends 11 _ _ (omega arith) c.requires.room (c.negated.ensures.stored _ c.in_ok-m.was) (c.both_negated.ensures.stored _ c.in_ok-n.was)
 
 pub not_weak-returns : goal.not_weak-returns
 not_weak-returns t c =
-    binary-wrote _ _ _ (c.negated-m.ensures.stored c.if-m-gt-MAX_NODES.false) (c.both_negated-n.ensures.stored c.if-n-gt-MAX_NODES.false) refl c.join.ensures
+    binary-wrote _ _ _ (c.negated.ensures.stored _ c.in_ok-m.was) (c.both_negated.ensures.stored _ c.in_ok-n.was) refl c.join.ensures
 
 pub plain-fields_at-node-requires : goal.plain-fields_at-node-requires
 unfolding plain' negated'
@@ -432,10 +343,6 @@ unfolding plain' negated'
 plain-both_plain-requires t c =
     let n = plain_twos_at t c in (omega (arith, c.decreases, n.below), (operands c.requires n.below, n.operator))
 
-pub plain-shape_of-out-in-0 : goal.plain-shape_of-out-in-0
-unfolding plain' negated'
-plain-shape_of-out-in-0 t c = search rules
-
 plain-node-5 : (t : ℕ) → (c : goal.plain-After-slice_known-in-0-1 t) → (k : ℕ) → c.fields_at-node.result.kind ≡ k → NodeIs field_limit c.args.nodes.now c.args.i (shape_of k) c.fields_at-node.result.first c.fields_at-node.result.second
 plain-node-5 t c k e = rw e at c.fields_at-node.ensures
 
@@ -443,10 +350,6 @@ pub plain-returns-in-0 : goal.plain-returns-in-0
 unfolding plain' negated'
 plain-returns-in-0 t c =
     let n = plain-node-5 t c true_kind c.in-0.is in rw n.tree c.constant.ensures
-
-pub plain-shape_of-out-in-1 : goal.plain-shape_of-out-in-1
-unfolding plain' negated'
-plain-shape_of-out-in-1 t c = search rules
 
 plain-node-6 : (t : ℕ) → (c : goal.plain-After-slice_known-in-1-1 t) → (k : ℕ) → c.fields_at-node.result.kind ≡ k → NodeIs field_limit c.args.nodes.now c.args.i (shape_of k) c.fields_at-node.result.first c.fields_at-node.result.second
 plain-node-6 t c k e = rw e at c.fields_at-node.ensures
@@ -456,10 +359,6 @@ unfolding plain' negated'
 plain-returns-in-1 t c =
     let n = plain-node-6 t c false_kind c.in-1.is in rw n.tree c.constant-in-1.ensures
 
-pub plain-shape_of-out-in-2 : goal.plain-shape_of-out-in-2
-unfolding plain' negated'
-plain-shape_of-out-in-2 t c = search rules
-
 plain-node-7 : (t : ℕ) → (c : goal.plain-After-slice_known-in-2-1 t) → (k : ℕ) → c.fields_at-node.result.kind ≡ k → NodeIs field_limit c.args.nodes.now c.args.i (shape_of k) c.fields_at-node.result.first c.fields_at-node.result.second
 plain-node-7 t c k e = rw e at c.fields_at-node.ensures
 
@@ -467,10 +366,6 @@ pub plain-returns-in-2 : goal.plain-returns-in-2
 unfolding plain' negated'
 plain-returns-in-2 t c =
     let n = plain-node-7 t c signal_kind c.in-2.is in rw n.tree c.signal.ensures
-
-pub plain-shape_of-out-in-3 : goal.plain-shape_of-out-in-3
-unfolding plain' negated'
-plain-shape_of-out-in-3 t c = search rules
 
 plain-node-8 : (t : ℕ) → (c : goal.plain-After-slice_known-in-3-1 t) → (k : ℕ) → c.fields_at-node.result.kind ≡ k → NodeIs field_limit c.args.nodes.now c.args.i (shape_of k) c.fields_at-node.result.first c.fields_at-node.result.second
 plain-node-8 t c k e = rw e at c.fields_at-node.ensures
@@ -480,10 +375,6 @@ unfolding plain' negated'
 plain-returns-in-3 t c =
     let n = plain-node-8 t c (unary_kind Not) c.in-3.is in rw n.tree c.negated.ensures
 
-pub plain-shape_of-out-in-6 : goal.plain-shape_of-out-in-6
-unfolding plain' negated'
-plain-shape_of-out-in-6 t c = search rules
-
 plain-node-9 : (t : ℕ) → (c : goal.plain-After-slice_known-in-6-1 t) → (k : ℕ) → c.fields_at-node.result.kind ≡ k → NodeIs field_limit c.args.nodes.now c.args.i (shape_of k) c.fields_at-node.result.first c.fields_at-node.result.second
 plain-node-9 t c k e = rw e at c.fields_at-node.ensures
 
@@ -492,10 +383,6 @@ unfolding plain' negated'
 plain-returns-in-6 t c =
     let n = plain-node-9 t c (binary_kind Implies) c.in-6.is in rw n.tree c.negated_plain.ensures
 
-pub plain-shape_of-out-in-7 : goal.plain-shape_of-out-in-7
-unfolding plain' negated'
-plain-shape_of-out-in-7 t c = search rules
-
 plain-node-10 : (t : ℕ) → (c : goal.plain-After-slice_known-in-7-1 t) → (k : ℕ) → c.fields_at-node.result.kind ≡ k → NodeIs field_limit c.args.nodes.now c.args.i (shape_of k) c.fields_at-node.result.first c.fields_at-node.result.second
 plain-node-10 t c k e = rw e at c.fields_at-node.ensures
 
@@ -503,10 +390,6 @@ pub plain-returns-in-7 : goal.plain-returns-in-7
 unfolding plain' negated'
 plain-returns-in-7 t c =
     let n = plain-node-10 t c (binary_kind Iff) c.in-7.is in rw n.tree c.equal.ensures
-
-pub plain-shape_of-out-in-8-to-10 : goal.plain-shape_of-out-in-8-to-10
-unfolding plain' negated'
-plain-shape_of-out-in-8-to-10 t c = search rules
 
 plain_ones_at-2 : (t : ℕ) → (c : goal.plain-After-slice_known-then-k-lt11-1 t) → OneStep plain' c.args.nodes.now c.args.i c.fields_at-node.result.first c.fields_at-node.result.kind
 plain_ones_at-2 t c =
@@ -517,10 +400,6 @@ pub plain-returns-in-8-to-10 : goal.plain-returns-in-8-to-10
 unfolding plain' negated'
 plain-returns-in-8-to-10 t c =
     rw (plain_ones_at-2 t c).tree c.plain_one.ensures
-
-pub plain-shape_of-out-in_default : goal.plain-shape_of-out-in_default
-unfolding plain' negated'
-plain-shape_of-out-in_default t c = search rules
 
 plain_twos_at-2 : (t : ℕ) → (c : goal.plain-After-slice_known-in_default-1 t) → TwoStep plain' c.args.nodes.now c.args.i c.fields_at-node.result.first c.fields_at-node.result.second c.fields_at-node.result.kind
 plain_twos_at-2 t c =
@@ -537,38 +416,28 @@ unfolding plain' negated'
 plain-returns-in_default t c =
     rw (plain_twos_at-2 t c).tree c.both_plain.ensures
 
-pub plain_negated-plain-m-requires : goal.plain_negated-plain-m-requires
-plain_negated-plain-m-requires t c = (omega (arith, c.decreases), lower _ c.requires.ready (omega arith) c.requires.ready.room)
+pub plain_negated-returns-in_err-m : goal.plain_negated-returns-in_err-m
+plain_negated-returns-in_err-m t c = binary_full _ _ _ c.in_err-m.was c.from_residual.ensures c.plain.ensures
 
-pub plain_negated-returns-then-m-gt-MAX_NODES : goal.plain_negated-returns-then-m-gt-MAX_NODES
-plain_negated-returns-then-m-gt-MAX_NODES t c = binary_full _ _ _ c.if-m-gt-MAX_NODES.true c.plain-m.ensures
-
-pub plain_negated-negated-n-requires : goal.plain_negated-negated-n-requires
-plain_negated-negated-n-requires t c =
-    (omega (arith, c.decreases), lower _ c.requires.ready (omega arith) (room_after c.requires.ready.room (c.plain-m.ensures.stored c.if-m-gt-MAX_NODES.false)))
-
-pub plain_negated-returns-then-n-gt-MAX_NODES : goal.plain_negated-returns-then-n-gt-MAX_NODES
-plain_negated-returns-then-n-gt-MAX_NODES t c =
-    binary_full_right _ _ _ c.if-n-gt-MAX_NODES.true (c.plain-m.ensures.stored c.if-m-gt-MAX_NODES.false) c.negated-n.ensures
+pub plain_negated-returns-in_err-n : goal.plain_negated-returns-in_err-n
+plain_negated-returns-in_err-n t c =
+    binary_full_right _ _ _ c.in_err-n.was c.from_residual-in_err-n.ensures (c.plain.ensures.stored _ c.in_ok-m.was) c.negated.ensures
 
 pub plain_negated-join-requires : goal.plain_negated-join-requires
 plain_negated-join-requires t c =
-    ends _ _ _ c.requires.binary.small c.requires.ready.room (c.plain-m.ensures.stored c.if-m-gt-MAX_NODES.false) (c.negated-n.ensures.stored c.if-n-gt-MAX_NODES.false)
+    ends _ _ _ c.requires.binary.small c.requires.ready.room (c.plain.ensures.stored _ c.in_ok-m.was) (c.negated.ensures.stored _ c.in_ok-n.was)
 
 pub plain_negated-returns : goal.plain_negated-returns
 plain_negated-returns t c =
-    binary-wrote _ _ _ (c.plain-m.ensures.stored c.if-m-gt-MAX_NODES.false) (c.negated-n.ensures.stored c.if-n-gt-MAX_NODES.false) c.requires.binary.number c.join.ensures
+    binary-wrote _ _ _ (c.plain.ensures.stored _ c.in_ok-m.was) (c.negated.ensures.stored _ c.in_ok-n.was) c.requires.binary.number c.join.ensures
 
-pub plain_one-plain-m-requires : goal.plain_one-plain-m-requires
-plain_one-plain-m-requires t c = (omega (arith, c.decreases), lower _ c.requires.ready (omega arith) c.requires.ready.room)
-
-pub plain_one-returns-then-m-gt-MAX_NODES : goal.plain_one-returns-then-m-gt-MAX_NODES
-plain_one-returns-then-m-gt-MAX_NODES t c = unary_full _ _ c.if-m-gt-MAX_NODES.true c.plain-m.ensures
+pub plain_one-returns-in_err-m : goal.plain_one-returns-in_err-m
+plain_one-returns-in_err-m t c = unary_full _ _ c.in_err-m.was c.from_residual.ensures c.plain.ensures
 
 pub plain_one-cap-requires : goal.plain_one-cap-requires
 plain_one-cap-requires t c =
-    end _ _ c.requires.unary.small c.requires.ready.room (c.plain-m.ensures.stored c.if-m-gt-MAX_NODES.false)
+    end _ _ c.requires.unary.small c.requires.ready.room (c.plain.ensures.stored _ c.in_ok-m.was)
 
 pub plain_one-returns : goal.plain_one-returns
 plain_one-returns t c =
-    unary-wrote _ _ (c.plain-m.ensures.stored c.if-m-gt-MAX_NODES.false) c.requires.unary.number c.cap.ensures
+    unary-wrote _ _ (c.plain.ensures.stored _ c.in_ok-m.was) c.requires.unary.number c.cap.ensures

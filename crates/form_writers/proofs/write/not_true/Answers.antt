@@ -5,13 +5,11 @@ use Rattle.node.specs.Ltl.{Not, True}
 use Rattle.storing.specs.StoringLaws.{unary_full, unary-wrote, end}
 use Rattle.form_writers.proofs.write.not_true.Goals as goal
 
-pub returns-then-m-gt-MAX_NODES : goal.returns-then-m-gt-MAX_NODES
-returns-then-m-gt-MAX_NODES c = unary_full Not True c.if-m-gt-MAX_NODES.true c.constant-m.ensures
+pub returns-in_err-m : goal.returns-in_err-m
+returns-in_err-m c = unary_full Not True c.in_err-m.was c.from_residual.ensures c.constant.ensures
 
 pub cap-requires : goal.cap-requires
-cap-requires c =
-    end 3 True (omega arith) c.requires (c.constant-m.ensures.stored c.if-m-gt-MAX_NODES.false)
+cap-requires c = end 3 True (omega arith) c.requires (c.constant.ensures.stored _ c.in_ok-m.was)
 
 pub returns : goal.returns
-returns c =
-    unary-wrote Not True (c.constant-m.ensures.stored c.if-m-gt-MAX_NODES.false) refl c.cap.ensures
+returns c = unary-wrote Not True (c.constant.ensures.stored _ c.in_ok-m.was) refl c.cap.ensures

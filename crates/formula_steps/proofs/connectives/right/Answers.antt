@@ -1,10 +1,11 @@
 -- `connectives::right` meets its contract: the nodes that have come stand behind those of the left operand, and are joined to them.
 use native.Mathlib.Omega.{arith}
+use Rattle.std.specs.Prelude.{Ok}
+use Rattle.machine.specs.declared.Move.TheVariants.{Next}
 use mathlib.Core.Path.{refl, ap, ◌∙◌}
 use Prim.Native.Nat.{◌+◌}
 use Rattle.formula_steps.specs.ConnectiveLaws.{right-small, right-steps}
 use Rattle.machine.specs.Fields.{value_field}
-use Rattle.machine.specs.declared.Move.TheVariants.{Next}
 use Rattle.machine.specs.declared.Machine.{Machine}
 use Rattle.machine.specs.Moves.{wrote}
 use Rattle.machine.specs.ContractLaws.{takes-to-write-as}
@@ -42,5 +43,5 @@ returns c =
     let at-popped = c.popped in
     let at-capped = c.capped in
     let at-wrote = c.wrote in
-    takes-to-write-as (ap Next (at-wrote.ensures ∙ ap (λ (n : Machine). wrote n at-capped.result) at-popped.ensures))
+    takes-to-write-as (ap (λ (y : Machine). Ok (Next y)) (at-wrote.ensures ∙ ap (λ (n : Machine). wrote n at-capped.result) at-popped.ensures))
     (right-steps c.requires.waiting at-if1.false refl at-infix-at.ensures refl at_join.ensures at-capped.ensures)

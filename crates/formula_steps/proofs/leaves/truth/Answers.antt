@@ -1,7 +1,9 @@
 use native.Mathlib.Omega.{arith}
+use Rattle.std.specs.Prelude.{Ok}
+use Rattle.machine.specs.declared.Machine.{Machine}
+use Rattle.machine.specs.declared.Move.TheVariants.{Next}
 use mathlib.Core.Path.{refl, ap}
 use Rattle.formula_steps.specs.TruthLaws.{written_entry, truth-steps}
-use Rattle.machine.specs.declared.Move.TheVariants.{Next}
 use Rattle.machine.specs.ContractLaws.{writes_as}
 use Rattle.formula_steps.proofs.leaves.truth.Goals as goal
 
@@ -15,4 +17,4 @@ returns c =
     let at_constant = c.constant-n in
     let at-capped = c.capped in
     let at-wrote = c.wrote in
-    writes_as (ap Next at-wrote.ensures) (truth-steps c.requires.expands at-number-at.ensures refl at_constant.ensures at-capped.ensures)
+    writes_as (ap (λ (y : Machine). Ok (Next y)) at-wrote.ensures) (truth-steps c.requires.expands at-number-at.ensures refl at_constant.ensures at-capped.ensures)

@@ -1,8 +1,5 @@
 -- `node_size` meets its contract: the code's sum is the node's size.
-use mathlib.Core.Path.{◌∙◌, ap}
-use Prim.Native.Nat.{min}
 use native.Mathlib.Omega.{arith}
-use Rattle.basics.specs.Told.{max_told}
 use Rattle.layout.specs.NodeLaws.{kind-told, name-told, left-told, right-told, size-told}
 use Rattle.layout.proofs.pieces.node_size.Goals as goal
 
@@ -44,4 +41,4 @@ returns c =
     c.piece_size-2.ensures.0
     c.piece_size-3.ensures.0 c.name_size-name.ensures.0 c.follows.ensures c.operand_size-left.ensures.0 c.follows-2.ensures
     c.operand_size-right.ensures.0 in
-    c.told.ensures ∙ ap (min max_told) all
+    omega (arith, all)

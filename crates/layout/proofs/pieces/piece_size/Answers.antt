@@ -10,5 +10,5 @@ bounds-pieces-kind c =
 
 pub returns : goal.returns
 returns c =
-    let e = c.wide.ensures.0 ∙ size_is c.args.kind c.args.done c.requires.0 c.requires.1.0 c.requires.1.1 in
+    let e = c.from.ensures ∙ size_is c.args.kind c.args.done c.requires.0 c.requires.1.0 c.requires.1.1 in
     (e, omega (arith, e, (table-row c.args.kind c.args.done c.requires.1.0 c.requires.1.1).short))

@@ -12,7 +12,7 @@ pub returns-then-k-lt-COUNT : goal.returns-then-k-lt-COUNT
 returns-then-k-lt-COUNT c =
     let find = c.find-k in
     let if1 = c.if-k-lt-COUNT in
-    sign-at _ _ _ _ c.requires.0 (λ i. omega (arith, c.type_inv.text i)) c.requires.1 _ find.ensures _ if1.true (c.wide.ensures.0 ∙ c.requires.0.rows.size _ if1.true)
+    sign-at _ _ _ _ c.requires.0 (λ i. omega (arith, c.type_inv.text i)) c.requires.1 _ find.ensures _ if1.true (c.from.ensures ∙ c.requires.0.rows.size _ if1.true)
 
 pub returns : goal.returns
 returns c =

@@ -18,18 +18,18 @@ returns-then-fits c =
     let fits2 = c.fits in
     finding-stop _ _ _ c.requires.inside _ loop.invariant loop-test.true _ c.if-fits.true fits2.ensures
 
-pub overflow_mul-next : goal.overflow_mul-next
-overflow_mul-next c =
+pub overflow_mul-k : goal.overflow_mul-k
+overflow_mul-k c =
     let loop-test = c.loop-k-test in
     omega (arith, loop-test.true)
 
-pub overflow_add-next : goal.overflow_add-next
-overflow_add-next c =
+pub overflow_add-k : goal.overflow_add-k
+overflow_add-k c =
     let loop-test = c.loop-k-test in
     omega (arith, loop-test.true)
 
-pub bounds-rows-next : goal.bounds-rows-next
-bounds-rows-next c =
+pub bounds-rows-k : goal.bounds-rows-k
+bounds-rows-k c =
     let loop-test = c.loop-k-test in
     omega (arith, loop-test.true)
 
@@ -37,7 +37,7 @@ pub loop-k-smaller : goal.loop-k-smaller
 loop-k-smaller c =
     let loop-test = c.loop-k-test in
     let loop = c.loop-k in
-    let n = c.requires.rows.next _ _ loop-test.true (loop.invariant.begun loop-test.true) in omega (arith, n.onward, n.fits, c.wide-k.ensures.0)
+    let n = c.requires.rows.next _ _ loop-test.true (loop.invariant.begun loop-test.true) in omega (arith, n.onward, n.fits, c.from-k.ensures)
 
 pub loop-k-preserved : goal.loop-k-preserved
 loop-k-preserved c =
@@ -46,7 +46,7 @@ loop-k-preserved c =
     let if1 = c.if-fits in
     let fits2 = c.fits in
     finding-on _ _ _ c.requires.inside _ loop.invariant _ loop-test.true _ if1.false fits2.ensures
-    (subst (NextWith _ _) (sym c.wide-k.ensures.0) (c.requires.rows.next _ _ loop-test.true (loop.invariant.begun loop-test.true)))
+    (subst (NextWith _ _) (sym c.from-k.ensures) (c.requires.rows.next _ _ loop-test.true (loop.invariant.begun loop-test.true)))
 
 pub returns : goal.returns
 returns c =

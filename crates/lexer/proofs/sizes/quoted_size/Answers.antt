@@ -1,32 +1,20 @@
-use Prim.Native.Nat.{◌+◌, ◌-◌}
-use mathlib.Core.Path.{sym, ◌∙◌}
-use borrow.Author.Tests.{eq-eqb, ne_eqb}
-use Rattle.lexer.proofs.SizeLaws.{quoted-stop, quoted-end, quoting_start, quoting_on}
-use native.Mathlib.Omega.{arith}
+-- `lexer::sizes::quoted_size` meets its contract: the bytes before the next quote, if there is one.
+use Rattle.std.proofs.Common.{rules, arith, drop}
+use lib.ListN.{length-drop}
+use mathlib.Core.Path.{◌≡◌}
+use Rattle.language.specs.Tokens.{run}
+use Rattle.lexer.proofs.SizeLaws.{in_string, quoted_run, quoted_open}
 use Rattle.lexer.proofs.sizes.quoted_size.Goals as goal
 
-pub loop-i-init : goal.loop-i-init
-loop-i-init c = quoting_start _ _ c.requires
+pub returns-then-n-text : goal.returns-then-n-text
+returns-then-n-text c =
+    let n : c.leading-n.result ≡ run in_string (drop c.args.from c.args.text.now) = c.leading-n.ensures in_string (λ b r l p. search rules) in
+    let size = length-drop c.args.from c.args.text.now in
+    let q = quoted_run 1 (drop c.args.from c.args.text.now) (omega (arith, n, size, c.if-n-text.true)) in
+    omega (arith, n, q)
 
-pub overflow_sub-result : goal.overflow_sub-result
-overflow_sub-result c =
-    let loop = c.loop-i in
-    loop.invariant.onward
-
-pub returns-then-text-i-eq34 : goal.returns-then-text-i-eq34
-returns-then-text-i-eq34 c =
-    let loop = c.loop-i in
-    let loop-test = c.loop-i-test in
-    let onward = loop.invariant.onward in
-    omega (arith, loop.invariant.same, quoted-stop c.args.text.now loop.i loop-test.true (loop.i - c.args.from + 1) (eq-eqb _ _ c.if-text-i-eq34.true))
-
-pub loop-i-preserved : goal.loop-i-preserved
-loop-i-preserved c =
-    let loop = c.loop-i in
-    let loop-test = c.loop-i-test in
-    quoting_on _ _ _ loop.invariant loop-test.true (ne_eqb _ _ c.if-text-i-eq34.false)
-
-pub returns : goal.returns
-returns c =
-    let loop = c.loop-i in
-    sym (loop.invariant.same ∙ quoted-end c.args.text.now loop.i c.loop-i-test.false _)
+pub returns-else-n-text : goal.returns-else-n-text
+returns-else-n-text c =
+    let n : c.leading-n.result ≡ run in_string (drop c.args.from c.args.text.now) = c.leading-n.ensures in_string (λ b r l p. search rules) in
+    let size = length-drop c.args.from c.args.text.now in
+    quoted_open 1 (drop c.args.from c.args.text.now) (omega (arith, n, size, c.if-n-text.false))

@@ -1,8 +1,27 @@
+use Rattle.node.proofs.ReturnedLaws.{raised}
 use Rattle.machine_run.specs.CycleLaws as cycles
 use Rattle.machine_run.specs.Evaluating.{moved}
+use Rattle.std.specs.Prelude.{Ok, Err}
+use Rattle.node.specs.Returned.{Returned}
+use Rattle.node.specs.declared.Refusal.{Refusal}
+use Rattle.machine.specs.Stepped.{Stepped}
+use Rattle.machine.specs.declared.Machine.{Machine}
+use Rattle.machine.specs.declared.Move.{Move}
+use Rattle.machine.specs.declared.Move.TheVariants.{Next}
 use native.Mathlib.Omega.{arith}
-use mathlib.Core.Path.{ap}
+use mathlib.Core.Path.{◌≡◌, ap}
 use Rattle.machine_run.proofs.cycle.+apart_evaluate.Goals as goal
+
+-- what a step that has gone well came to
+then-ok : {r : Stepped} {x y : Move} → r ≡ Ok x → x ≡ y → r ≡ Ok y
+then-ok p q = cc
+
+-- what an entry worked out apart came to, as a step
+moved_comes : {u : Returned Machine} {n : Machine} → u ≡ Ok n → moved u ≡ Ok (Next n)
+moved_comes e = ap moved e
+
+moved_fails : {u : Returned Machine} {e : Refusal} → u ≡ Err e → moved u ≡ Err e
+moved_fails e = ap moved e
 
 pub apart-apart-requires : goal.apart-apart-requires
 apart-apart-requires t c =
@@ -23,26 +42,27 @@ pub apart-outset-requires : goal.apart-outset-requires
 apart-outset-requires t c =
     cycles.outset-fits c.requires.stands c.requires.mode_bound
 
-pub apart-evaluate-r-requires : goal.apart-evaluate-r-requires
-apart-evaluate-r-requires t c = (
+pub apart-evaluate-requires : goal.apart-evaluate-requires
+apart-evaluate-requires t c = (
   cycles.outset_less c.args.m c.decreases c.outset.ensures,
   cycles.fresh-begins c.args.m c.room-fresh.ensures c.copy.ensures (cycles.apart_fits c.requires.stands c.requires.mode_bound) c.requires.stands c.requires.mode_bound c.outset.ensures,
 )
 
-pub apart-returns-in_default : goal.apart-returns-in_default
-apart-returns-in_default t c =
-    cycles.apart-fails c.args.m c.room-fresh.ensures c.copy.ensures (cycles.apart_fits c.requires.stands c.requires.mode_bound) c.requires.stands c.requires.mode_bound c.outset.ensures
-    c.evaluate-r.ensures c.in_default.is
+pub apart-returns-in_err-n : goal.apart-returns-in_err-n
+apart-returns-in_err-n t c =
+    rw (raised c.from_residual.ensures)
+    (cycles.apart-fails c.args.m c.room-fresh.ensures c.copy.ensures (cycles.apart_fits c.requires.stands c.requires.mode_bound) c.requires.stands c.requires.mode_bound c.outset.ensures
+    c.evaluate.ensures c.in_err-n.was)
 
 pub apart-bring-requires : goal.apart-bring-requires
 apart-bring-requires t c =
     cycles.apart-bringable c.args.m c.room-fresh.ensures c.copy.ensures (cycles.apart_fits c.requires.stands c.requires.mode_bound) c.requires.stands c.requires.mode_bound c.outset.ensures
-    c.evaluate-r.ensures c.in-Came.is
+    c.evaluate.ensures c.in_ok-n.was
 
 pub apart-returns : goal.apart-returns
 apart-returns t c =
     cycles.apart-comes c.args.m c.room-fresh.ensures c.copy.ensures (cycles.apart_fits c.requires.stands c.requires.mode_bound) c.requires.stands c.requires.mode_bound c.outset.ensures
-    c.evaluate-r.ensures c.in-Came.is c.bring.ensures
+    c.evaluate.ensures c.in_ok-n.was c.bring.ensures
 
 pub evaluate-loop-n-init : goal.evaluate-loop-n-init
 evaluate-loop-n-init t c =
@@ -60,57 +80,40 @@ evaluate-returns-then-finished t c =
     let at-if1 = c.if-finished in
     cycles.run_ends c.requires.stands at-loop.invariant (cycles.done_at _ _ _ at-finished.ensures at-if1.true)
 
-pub evaluate-step-t-requires : goal.evaluate-step-t-requires
-evaluate-step-t-requires t c =
-    let at-loop = c.loop-n in
-    let at-finished = c.finished in
-    let at-if1 = c.if-finished in
-    record { ready_to_write = cycles.ready (cycles.stands c.requires.stands at-loop.invariant); going = cycles.going_at _ _ _ at-finished.ensures at-if1.false }
+pub evaluate-step-requires : goal.evaluate-step-requires
+evaluate-step-requires t c =
+    record { ready_to_write = cycles.ready (cycles.stands c.requires.stands c.loop-n.invariant); going = cycles.going_at _ _ _ c.finished.ensures c.if-finished.false }
+
+pub evaluate-returns-in_err-k : goal.evaluate-returns-in_err-k
+evaluate-returns-in_err-k t c =
+    rw (raised c.from_residual.ensures) (cycles.step-fails c.requires.stands c.loop-n.invariant c.step.ensures c.in_err-k.was)
 
 pub evaluate-loop-n-smaller-in-Next : goal.evaluate-loop-n-smaller-in-Next
 evaluate-loop-n-smaller-in-Next t c =
-    let at-loop = c.loop-n in
-    let at-step = c.step-t in
-    cycles.step_less c.requires.stands at-loop.invariant at-step.ensures c.in-Next.is
+    cycles.step_less c.requires.stands c.loop-n.invariant c.step.ensures (then-ok c.in_ok-k.was c.in-Next.is)
 
 pub evaluate-loop-n-preserved-in-Next : goal.evaluate-loop-n-preserved-in-Next
 evaluate-loop-n-preserved-in-Next t c =
-    let at-loop = c.loop-n in
-    let at-step = c.step-t in
-    cycles.step-again c.requires.stands at-loop.invariant at-step.ensures c.in-Next.is
+    cycles.step-again c.requires.stands c.loop-n.invariant c.step.ensures (then-ok c.in_ok-k.was c.in-Next.is)
 
-pub evaluate-returns-in-Refused : goal.evaluate-returns-in-Refused
-evaluate-returns-in-Refused t c =
-    let at-loop = c.loop-n in
-    let at-step = c.step-t in
-    cycles.step-fails c.requires.stands at-loop.invariant at-step.ensures c.in-Refused.is
+pub evaluate-apart-requires : goal.evaluate-apart-requires
+evaluate-apart-requires t c =
+    let short = then-ok c.in_ok-k.was c.in-Short.is in
+    let p = cycles.step-short c.requires.stands c.loop-n.invariant c.step.ensures short in
+    let g = cycles.step_stays c.requires.stands c.loop-n.invariant c.step.ensures short in
+    (cycles.apart_less c.requires.stands c.loop-n.invariant c.decreases p.mode p.short, (cycles.stands c.requires.stands g, p.mode))
 
-pub evaluate-apart-u-requires : goal.evaluate-apart-u-requires
-evaluate-apart-u-requires t c =
-    let at-loop = c.loop-n in
-    let at-step = c.step-t in
-    let p = cycles.step-short c.requires.stands at-loop.invariant at-step.ensures c.in-Short.is in
-    let g = cycles.step_stays c.requires.stands at-loop.invariant at-step.ensures c.in-Short.is in
-    (cycles.apart_less c.requires.stands at-loop.invariant c.decreases p.mode p.short, (cycles.stands c.requires.stands g, p.mode))
-
-pub evaluate-returns-in_default : goal.evaluate-returns-in_default
-evaluate-returns-in_default t c =
-    let at-loop = c.loop-n in
-    let at-step = c.step-t in
-    let at-apart = c.apart-u in
-    let refused = c.in_default.is in
-    rw refused (cycles.step-fails c.requires.stands (cycles.step_stays c.requires.stands at-loop.invariant at-step.ensures c.in-Short.is) at-apart.ensures (ap moved refused))
+pub evaluate-returns-in_err-n-in-Short : goal.evaluate-returns-in_err-n-in-Short
+evaluate-returns-in_err-n-in-Short t c =
+    let short = then-ok c.in_ok-k.was c.in-Short.is in
+    rw (raised c.from_residual-in_err-n-in-Short.ensures)
+    (cycles.step-fails c.requires.stands (cycles.step_stays c.requires.stands c.loop-n.invariant c.step.ensures short) c.apart.ensures (moved_fails c.in_err-n-in-Short.was))
 
 pub evaluate-loop-n-smaller : goal.evaluate-loop-n-smaller
 evaluate-loop-n-smaller t c =
-    let at-loop = c.loop-n in
-    let at-step = c.step-t in
-    let at-apart = c.apart-u in
-    cycles.back_falls c.requires.stands at-loop.invariant at-step.ensures c.in-Short.is at-apart.ensures c.in-Came.is
+    cycles.back_falls c.requires.stands c.loop-n.invariant c.step.ensures (then-ok c.in_ok-k.was c.in-Short.is) c.apart.ensures c.in_ok-n-in-Short.was
 
 pub evaluate-loop-n-preserved : goal.evaluate-loop-n-preserved
 evaluate-loop-n-preserved t c =
-    let at-loop = c.loop-n in
-    let at-step = c.step-t in
-    let at-apart = c.apart-u in
-    cycles.step-again c.requires.stands (cycles.step_stays c.requires.stands at-loop.invariant at-step.ensures c.in-Short.is) at-apart.ensures (ap moved c.in-Came.is)
+    cycles.step-again c.requires.stands (cycles.step_stays c.requires.stands c.loop-n.invariant c.step.ensures (then-ok c.in_ok-k.was c.in-Short.is)) c.apart.ensures
+    (moved_comes c.in_ok-n-in-Short.was)

@@ -13,7 +13,7 @@ abbrev pub decreases-evaluate : goal.decreases-evaluate
 decreases-evaluate l = 2 * price (suc l.m.value)
 
 abbrev pub invariant-evaluate-loop-n : goal.invariant-evaluate-loop-n
-invariant-evaluate-loop-n l = cycles.Runs (source l.text l.work l.refs) l.initial.memory l.initial.table l.initial.n l.memory l.table l.n
+invariant-evaluate-loop-n l = cycles.Runs (source l.source.text.now l.source.work.now l.source.refs.now) l.initial.memory l.initial.table l.initial.n l.memory l.table l.n
 
 abbrev pub decreases-evaluate-loop-n : goal.decreases-evaluate-loop-n
 decreases-evaluate-loop-n l = cost l.memory l.n

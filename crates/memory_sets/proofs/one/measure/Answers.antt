@@ -1,15 +1,10 @@
 -- `one::measure` meets its contract: a law for each measure, and one for nothing.
-use Rattle.memory_sets.specs.PlaceLaws.{placed-reads, first_word, last_word_lem}
+use Rattle.memory_sets.specs.PlaceLaws.{first_word, last_word_lem}
 use Rattle.sets.specs.UnionLaws.{ordered_room}
 use Rattle.sets.specs.ListingLaws.{size_of, none_of, least_of, greatest_of}
 use Rattle.node.specs.Result.{Done}
 use mathlib.Core.Path.{ap, ◌∙◌}
-use native.Mathlib.Omega.{arith}
-use borrow.Author.Rules.{rules}
 use Rattle.memory_sets.proofs.one.measure.Goals as goal
-
-pub overflow_cast-result : goal.overflow_cast-result
-overflow_cast-result c = let few = c.requires.few in search rules
 
 pub returns-then-operator-eq-SIZE : goal.returns-then-operator-eq-SIZE
 returns-then-operator-eq-SIZE c = size_of _ _ _ _ (ordered_room _ _ c.requires) c.if-operator-eq-SIZE.true
@@ -17,28 +12,9 @@ returns-then-operator-eq-SIZE c = size_of _ _ _ _ (ordered_room _ _ c.requires) 
 pub returns-then-count-eq0 : goal.returns-then-count-eq0
 returns-then-count-eq0 c = none_of _ _ _ _ (ordered_room _ _ c.requires) c.if-operator-eq-SIZE.false c.if-count-eq0.true
 
-pub offset_bounds-memory-at : goal.offset_bounds-memory-at
-offset_bounds-memory-at c = omega (arith, placed-reads _ c.args.set c.requires)
-
-pub bounds-memory-at : goal.bounds-memory-at
-bounds-memory-at c = omega (arith, placed-reads _ c.args.set c.requires)
-
 pub returns-then-operator-eq-MIN : goal.returns-then-operator-eq-MIN
 returns-then-operator-eq-MIN c =
     ap Done (first_word c.args.memory.now c.args.set.at) ∙ least_of _ _ _ _ (ordered_room _ _ c.requires) c.if-operator-eq-MIN.true c.if-count-eq0.false
-
-pub overflow_add-result : goal.overflow_add-result
-overflow_add-result c = omega (arith, placed-reads _ c.args.set c.requires)
-
-pub overflow_sub-result : goal.overflow_sub-result
-overflow_sub-result c = omega (arith, c.if-count-eq0.false)
-
-pub offset_bounds-memory-at-2 : goal.offset_bounds-memory-at-2
-offset_bounds-memory-at-2 c = omega (arith, placed-reads _ c.args.set c.requires, c.if-count-eq0.false)
-
-pub bounds-memory-at-2 : goal.bounds-memory-at-2
-bounds-memory-at-2 c =
-    omega (arith, placed-reads _ c.args.set c.requires, c.if-count-eq0.false)
 
 pub returns : goal.returns
 returns c =

@@ -1,21 +1,10 @@
 -- `one::passes` meets its contract: x is an element where it stands at its place, and none where it does not.
-use Rattle.memory_sets.specs.PlaceLaws.{placed-reads}
 use Rattle.sets.specs.SelectionLaws.{passes_there, passes-not}
 use lib.Seq.{get_or-drop}
 use mathlib.Core.Path.{sym, ◌∙◌}
 use native.Mathlib.Omega.{arith}
 use Rattle.memory_sets.proofs.one.passes.Goals as goal
 use Rattle.memory_sets.proofs.one.passes.Goals.{then-j-set+else-x-memory, else-j-set}
-
-pub overflow_add-at : goal.overflow_add-at
-overflow_add-at c = omega (arith, placed-reads _ c.args.set c.requires.placed, c.if-j-set.true)
-
-pub offset_bounds-memory-at : goal.offset_bounds-memory-at
-offset_bounds-memory-at c = omega (arith, placed-reads _ c.args.set c.requires.placed, c.if-j-set.true)
-
-pub bounds-memory-at : goal.bounds-memory-at
-bounds-memory-at c =
-    omega (arith, placed-reads _ c.args.set c.requires.placed, c.if-j-set.true)
 
 pub returns-then-x-memory : goal.returns-then-x-memory
 returns-then-x-memory c =

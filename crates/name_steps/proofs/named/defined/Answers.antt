@@ -1,9 +1,11 @@
 -- Marked nodes are copied; without a mark the body is worked out.
 use mathlib.Core.Path.{ap}
+use Rattle.std.specs.Prelude.{Ok}
+use Rattle.machine.specs.declared.Machine.{Machine}
+use Rattle.machine.specs.declared.Move.TheVariants.{Next}
 use native.Mathlib.Omega.{arith}
 use Rattle.machine.specs.ContractLaws.{writes_as}
 use Rattle.machine.specs.OpenLaws.{ready_open}
-use Rattle.machine.specs.declared.Move.TheVariants.{Next}
 use Rattle.value_steps.specs.NameLaws.{note_inside}
 use Rattle.name_steps.specs.NameLaws.{ready_of, mark-copyable, mark-writes, body-writes}
 use Rattle.name_steps.proofs.named.defined.Goals as goal
@@ -35,7 +37,7 @@ returns-then-mark-ne0 c =
     let at_again = c.again-n in
     let at-capped = c.capped in
     let at-wrote = c.wrote in
-    writes_as (ap Next at-wrote.ensures)
+    writes_as (ap (λ (y : Machine). Ok (Next y)) at-wrote.ensures)
     (mark-writes c.requires.defined.named c.requires.defined.same c.requires.defined.declared c.requires.defined.body at-if1.true at_again.ensures at-capped.ensures)
 
 pub overflow_add-n : goal.overflow_add-n

@@ -1,20 +1,18 @@
 -- By the sort of the name's note.
 use lib.ListN.{get_or}
+use Rattle.std.specs.Prelude.{Ok}
+use Rattle.machine.specs.declared.Machine.{Machine}
+use Rattle.machine.specs.declared.Move.TheVariants.{Next}
 use mathlib.Core.Path.{refl, ap, sym, ◌∙◌}
 use native.Mathlib.Omega.{arith}
 use Rattle.machine.specs.ContractLaws.{writes_as}
-use Rattle.machine.specs.declared.Move.TheVariants.{Next}
 use Rattle.value_steps.specs.NameLaws.{note_inside, note_first, reference-inside}
 use Rattle.name_steps.specs.NameLaws.{ready_of, element-refused, nothing-refused, other-refused, signal-number, signal-writes}
 use Rattle.name_steps.proofs.named.name.Goals as goal
 
-pub bounds-refs-k : goal.bounds-refs-k
-bounds-refs-k c =
+pub bounds-source-k : goal.bounds-source-k
+bounds-source-k c =
     reference-inside (ready_of c.requires.ready_to_write) (let e = c.requires.expands.mode in omega arith)
-
-pub overflow_cast-r : goal.overflow_cast-r
-overflow_cast-r c =
-    omega (arith, c.type_inv.refs c.args.m.value)
 
 pub returns-then-r-ge-MAX_NAMES : goal.returns-then-r-ge-MAX_NAMES
 returns-then-r-ge-MAX_NAMES c =
@@ -24,7 +22,7 @@ returns-then-r-ge-MAX_NAMES c =
 pub bounds-memory-at : goal.bounds-memory-at
 bounds-memory-at c =
     let at-if1 = c.if-r-ge-MAX_NAMES in
-    let r = get_or c.args.refs.now c.args.m.value 0 in
+    let r = get_or c.args.source.now.refs.now c.args.m.value 0 in
     let e = at-if1.false in
     let i = note_inside {r = r} (ready_of c.requires.ready_to_write) (omega arith) in
     omega arith
@@ -33,7 +31,7 @@ pub defined-requires : goal.defined-requires
 defined-requires c =
     let at-if1 = c.if-r-ge-MAX_NAMES in
     let at-if2 = c.if-sort in
-    let r = get_or c.args.refs.now c.args.m.value 0 in
+    let r = get_or c.args.source.now.refs.now c.args.m.value 0 in
     let first = note_first c.args.memory.now r in
     let e = at-if1.false in
     record {
@@ -50,7 +48,7 @@ pub signal_at-n-requires : goal.signal_at-n-requires
 signal_at-n-requires c =
     let at-if1 = c.if-r-ge-MAX_NAMES in
     let at-if3 = c.if-sort-2 in
-    let r = get_or c.args.refs.now c.args.m.value 0 in
+    let r = get_or c.args.source.now.refs.now c.args.m.value 0 in
     let first = note_first c.args.memory.now r in
     let e = at-if1.false in
     let i = note_inside {r = r} (ready_of c.requires.ready_to_write) (omega arith) in
@@ -63,15 +61,15 @@ returns-then-sort-2 c =
     let at-signal-at = c.signal_at-n in
     let at-capped = c.capped in
     let at-wrote = c.wrote in
-    let r = get_or c.args.refs.now c.args.m.value 0 in
+    let r = get_or c.args.source.now.refs.now c.args.m.value 0 in
     let first = note_first c.args.memory.now r in
     let e = at-if1.false in
-    writes_as (ap Next at-wrote.ensures) (signal-writes c.requires.expands refl (omega arith) (sym first ∙ at-if3.true) at-signal-at.ensures at-capped.ensures)
+    writes_as (ap (λ (y : Machine). Ok (Next y)) at-wrote.ensures) (signal-writes c.requires.expands refl (omega arith) (sym first ∙ at-if3.true) at-signal-at.ensures at-capped.ensures)
 
 pub returns-then-sort-3 : goal.returns-then-sort-3
 returns-then-sort-3 c =
     let at-if1 = c.if-r-ge-MAX_NAMES in
-    let r = get_or c.args.refs.now c.args.m.value 0 in
+    let r = get_or c.args.source.now.refs.now c.args.m.value 0 in
     let first = note_first c.args.memory.now r in
     let e = at-if1.false in
     nothing-refused c.requires.expands refl (omega arith) (sym first ∙ c.if-sort-3.true)
@@ -80,7 +78,7 @@ pub returns : goal.returns
 returns c =
     let at-if1 = c.if-r-ge-MAX_NAMES in
     let at-if2 = c.if-sort in
-    let r = get_or c.args.refs.now c.args.m.value 0 in
+    let r = get_or c.args.source.now.refs.now c.args.m.value 0 in
     let first = note_first c.args.memory.now r in
     let e = at-if1.false in
     other-refused c.requires.expands refl (omega arith) (λ z. at-if2.false (first ∙ z)) (λ z. c.if-sort-2.false (first ∙ z)) (λ z. c.if-sort-3.false (first ∙ z))

@@ -1,5 +1,4 @@
 -- `names::declare::declare` meets its contract: the entries from k on are done.
-use Prim.Native.Nat.{◌≤◌}
 use mathlib.Core.Path.{◌≡◌}
 use lib.ListN.{length}
 use Rattle.names.specs.Tables.{no_place}
@@ -9,7 +8,4 @@ use Rattle.names.proofs.declare.declare.Given as goal
 
 abbrev pub invariant-loop-k : goal.invariant-loop-k
 invariant-loop-k l =
-    (l.k ≤ l.entries) × (length l.table ≡ length l.initial.table) × ((h : Walkable l.work l.ids l.entries) → Table h l.initial.table (λ t. no_place) → Met h l.low l.k l.table l.place)
-
-abbrev pub decreases-loop-k : goal.decreases-loop-k
-decreases-loop-k l = l.k
+    (length l.table ≡ length l.initial.table) × ((h : Walkable l.work l.ids l.entries) → Table h l.initial.table (λ t. no_place) → Met h l.low l.k l.table l.place)

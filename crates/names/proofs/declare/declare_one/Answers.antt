@@ -11,4 +11,4 @@ returns-then-not-declares c =
 pub returns : goal.returns
 returns c =
     λ h m. met-more h _ c.requires.2 _ c.requires.1 c.kind_at-kind.ensures m (sym c.declares.ensures ∙ c.if-not-declares.false)
-    c.name_at-at.ensures c.wide-seen.ensures.0 c.smaller.ensures (c.smaller-2.ensures ∙ ap (min _) c.larger.ensures)
+    c.name_at-at.ensures c.from-seen.ensures c.min.ensures (c.min-2.ensures ∙ ap (min _) c.max.ensures)

@@ -20,6 +20,6 @@ returns c =
     record {
       next = refl;
       walking = λ h d s. walk-bind h d _ c.requires.0.inside refl s c.requires.1 c.name_at-at.ensures refl refl
-          (c.smaller.ensures ∙ ap (λ v. min v at) c.wide-place.ensures.0) refl
-          (c.smaller-2.ensures ∙ ap (min _) (c.larger.ensures ∙ ap (λ v. max v at) c.wide-place.ensures.0));
+          (c.min.ensures ∙ ap (λ v. min v at) c.from-place.ensures) refl
+          (c.min-2.ensures ∙ ap (min _) (c.max.ensures ∙ ap (λ v. max v at) c.from-place.ensures));
     }

@@ -7,5 +7,5 @@ pub returns : goal.returns
 returns c =
     record {
       next = refl;
-      walking = λ h d s. walk-declare h _ c.requires.0.inside refl d s c.requires.1 c.name_at-at.ensures c.wide.ensures.0 refl c.smaller.ensures;
+      walking = λ h d s. walk-declare h _ c.requires.0.inside refl d s c.requires.1 c.name_at-at.ensures c.from.ensures refl c.min.ensures;
     }

@@ -10,14 +10,14 @@ overflow_sub-depth c =
 
 pub bounds-seen-id : goal.bounds-seen-id
 bounds-seen-id c =
-    let f = end-inside c.requires.0.walkable c.requires.0.declared _ c.requires.0.inside refl c.requires.0.walking c.requires.1 c.wide-id.ensures.0 in
+    let f = end-inside c.requires.0.walkable c.requires.0.declared _ c.requires.0.inside refl c.requires.0.walking c.requires.1 c.from-id.ensures in
     let r = c.requires.0.walking.shown.room in omega arith
 
 pub bounds-table-id : goal.bounds-table-id
 bounds-table-id c =
-    let f = end-inside c.requires.0.walkable c.requires.0.declared _ c.requires.0.inside refl c.requires.0.walking c.requires.1 c.wide-id.ensures.0 in
+    let f = end-inside c.requires.0.walkable c.requires.0.declared _ c.requires.0.inside refl c.requires.0.walking c.requires.1 c.from-id.ensures in
     let r = c.requires.0.walking.points.room in omega arith
 
 pub returns : goal.returns
 returns c =
-    record { next = refl; walking = λ h d s. walk_end h d _ c.requires.0.inside refl s c.requires.1 c.wide-id.ensures.0 refl refl }
+    record { next = refl; walking = λ h d s. walk_end h d _ c.requires.0.inside refl s c.requires.1 c.from-id.ensures refl refl }

@@ -8,6 +8,6 @@ pub returns : goal.returns
 returns c =
     record {
       next = refl;
-      walking = λ h d s. walk-use h _ c.requires.0.inside refl d s c.requires.1 c.name_at-at.ensures c.wide.ensures.0 refl
-          (c.smaller.ensures ∙ ap (min _) c.hidden_place-hidden.ensures);
+      walking = λ h d s. walk-use h _ c.requires.0.inside refl d s c.requires.1 c.name_at-at.ensures c.from.ensures refl
+          (c.min.ensures ∙ ap (min _) c.hidden_place-hidden.ensures);
     }

@@ -1,5 +1,5 @@
 -- `choose` meets its contract: the entries from i on are still to be looked at.
-use Prim.Native.Nat.{◌+◌, ◌-◌, ◌≤◌}
+use Prim.Native.Nat.{◌+◌, ◌≤◌}
 use mathlib.Core.List.{List}
 use mathlib.Core.Path.{◌≡◌}
 use lib.ListN.{length}
@@ -11,9 +11,8 @@ use Rattle.notes.specs.ChoosingLaws.{Choosing}
 use Rattle.notes.proofs.choose.choose.Given as goal
 
 abbrev pub invariant-loop-i : goal.invariant-loop-i
-invariant-loop-i l = (l.i ≤ l.entries) ×
-    ((l.at ≤ l.from + l.i) × ((length l.order ≡ length l.initial.order) × ((ts : Tokens) (es : List Entry) → EntriesFrom l.work ts 0 es → length es ≡ l.entries
-    → Choosing l.work ts l.entries (choice l.wanted l.low l.high) es l.initial.order l.from l.heading l.i l.at l.order)))
-
-abbrev pub decreases-loop-i : goal.decreases-loop-i
-decreases-loop-i l = l.entries - l.i
+invariant-loop-i l = record {
+  few : l.at ≤ l.from + l.i;
+  chosen : (ts : Tokens) (es : List Entry) → EntriesFrom l.work ts 0 es → length es ≡ l.entries
+      → Choosing l.work ts l.entries (choice l.wanted l.low l.high) es l.initial.order l.from l.heading l.i l.at l.order;
+}

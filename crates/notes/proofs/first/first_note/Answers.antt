@@ -13,17 +13,17 @@ returns-then-r-names c = λ text refs count entries x s r. record { is = unnoted
 pub entry_word-requires : goal.entry_word-requires
 entry_word-requires c = (
   c.requires.0.stored.lexed.room,
-  subst (λ n. n < max_tokens) (sym c.wide-k.ensures.0)
+  subst (λ n. n < max_tokens) (sym c.from-k.ensures)
       (found_inside c.requires.0.stored c.requires.0.resolved c.args.r c.if-r-names.false),
 )
 
 pub note_of-requires : goal.note_of-requires
 note_of-requires c =
-    subst (λ n. n < max_tokens) (sym c.wide-k.ensures.0) (found_inside c.requires.0.stored c.requires.0.resolved c.args.r c.if-r-names.false)
+    subst (λ n. n < max_tokens) (sym c.from-k.ensures) (found_inside c.requires.0.stored c.requires.0.resolved c.args.r c.if-r-names.false)
 
 pub returns : goal.returns
 returns c =
     λ text refs count entries x s r. record {
-      is = noted_as s r c.args.r c.if-r-names.false c.wide-k.result _ _ _ c.wide-k.ensures.0
+      is = noted_as s r c.args.r c.if-r-names.false c.from-k.result _ _ _ c.from-k.ensures
           (ap kind_of c.entry_word.ensures) c.note_of.ensures;
     }

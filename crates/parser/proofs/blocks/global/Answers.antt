@@ -1,4 +1,5 @@
 -- `global` meets its contract: the laws of GLOBAL.
+use Rattle.node.proofs.ReturnedLaws.{raised}
 use Rattle.parser.proofs.Laws.Globals.{global_missing, global-ready, global-open, global-parameters, global-definitions, global-tail}
 use Rattle.parser.proofs.Laws.Passing.{next_of_lem, next_fits, passed, passed-ready}
 use Rattle.parser.proofs.Laws.Rows.{accepted}
@@ -14,82 +15,85 @@ pub next-requires : goal.next-requires
 next-requires c =
     let z = c.requires in next_fits z.ready (sym c.number.ensures ∙ c.if-number-ne-GLOBAL.false) (omega arith)
 
-pub expect-r-requires : goal.expect-r-requires
-expect-r-requires c =
+pub expect-requires : goal.expect-requires
+expect-requires c =
     let z = c.requires in
     ((global-ready z.ready (sym c.number.ensures ∙ c.if-number-ne-GLOBAL.false) (next_of_lem c.next.ensures)).fits, omega arith)
 
-pub returns-in_default : goal.returns-in_default
-returns-in_default c =
-    λ ts ready. global-open ready (sym c.number.ensures ∙ c.if-number-ne-GLOBAL.false) (next_of_lem c.next.ensures) c.expect-r.ensures c.in_default.is
+pub returns-in_err-d : goal.returns-in_err-d
+returns-in_err-d c =
+    rw (raised c.from_residual.ensures ∙ sym c.in_err-d.was)
+    (λ ts ready. global-open ready (sym c.number.ensures ∙ c.if-number-ne-GLOBAL.false) (next_of_lem c.next.ensures) c.expect.ensures c.in_err-d.was)
 
-pub optional-p-requires : goal.optional-p-requires
-optional-p-requires c =
+pub optional-requires : goal.optional-requires
+optional-requires c =
     let z = c.requires in (
       record {
         tokens = z.tokens;
         ready = passed-ready (global-ready z.ready
             (sym c.number.ensures ∙ c.if-number-ne-GLOBAL.false)
-            (next_of_lem c.next.ensures)) (passed _ _ _ c.expect-r.ensures c.in-Parsed.is)
+            (next_of_lem c.next.ensures)) (passed _ _ _ c.expect.ensures c.in_ok-d.was)
             (omega arith);
       },
       omega arith,
     )
 
-pub returns-in_default-p : goal.returns-in_default-p
-returns-in_default-p c =
-    λ ts ready. global-parameters ready (sym c.number.ensures ∙ c.if-number-ne-GLOBAL.false) (next_of_lem c.next.ensures) (passed _ _ _ c.expect-r.ensures c.in-Parsed.is)
-    (c.optional-p.ensures "PARAMETERS" (record { known = refl; same = refl }) ts (passed-ready (global-ready ready (sym c.number.ensures ∙ c.if-number-ne-GLOBAL.false)
-    (next_of_lem c.next.ensures)) (passed _ _ _ c.expect-r.ensures c.in-Parsed.is) (omega arith))) c.in_default-p.is
+pub returns-in_err-e : goal.returns-in_err-e
+returns-in_err-e c =
+    rw (raised c.from_residual-in_err-e.ensures ∙ sym c.in_err-e.was)
+    (λ ts ready. global-parameters ready (sym c.number.ensures ∙ c.if-number-ne-GLOBAL.false) (next_of_lem c.next.ensures) (passed _ _ _ c.expect.ensures c.in_ok-d.was)
+    (c.optional.ensures "PARAMETERS" (record { known = refl; same = refl }) ts (passed-ready (global-ready ready (sym c.number.ensures ∙ c.if-number-ne-GLOBAL.false)
+    (next_of_lem c.next.ensures)) (passed _ _ _ c.expect.ensures c.in_ok-d.was) (omega arith))) c.in_err-e.was)
 
-pub optional-q-requires : goal.optional-q-requires
-optional-q-requires c =
+pub optional-requires-2 : goal.optional-requires-2
+optional-requires-2 c =
     let z = c.requires in (
       record {
         tokens = z.tokens;
-        ready = (accepted c.in-Parsed-p.is
-            (c.optional-p.ensures "PARAMETERS" (record { known = refl; same = refl }) z.tokens
+        ready = (accepted c.in_ok-e.was
+            (c.optional.ensures "PARAMETERS" (record { known = refl; same = refl }) z.tokens
             (passed-ready (global-ready z.ready (sym c.number.ensures ∙
             c.if-number-ne-GLOBAL.false)
             (next_of_lem c.next.ensures))
-            (passed _ _ _ c.expect-r.ensures
-            c.in-Parsed.is) (omega arith)))).took.ready;
+            (passed _ _ _ c.expect.ensures
+            c.in_ok-d.was) (omega arith)))).took.ready;
       },
       omega arith,
     )
 
-pub returns-in_default-q : goal.returns-in_default-q
-returns-in_default-q c =
-    λ ts ready. global-definitions ready (sym c.number.ensures ∙ c.if-number-ne-GLOBAL.false) (next_of_lem c.next.ensures) (passed _ _ _ c.expect-r.ensures c.in-Parsed.is)
-    (c.optional-p.ensures "PARAMETERS" (record { known = refl; same = refl }) ts (passed-ready (global-ready ready (sym c.number.ensures ∙ c.if-number-ne-GLOBAL.false)
-    (next_of_lem c.next.ensures)) (passed _ _ _ c.expect-r.ensures c.in-Parsed.is) (omega arith))) c.in-Parsed-p.is (c.optional-q.ensures "DEFINITIONS" (record {
+pub returns-in_err-f : goal.returns-in_err-f
+returns-in_err-f c =
+    rw (raised c.from_residual-in_err-f.ensures ∙ sym c.in_err-f.was)
+    (λ ts ready. global-definitions ready (sym c.number.ensures ∙ c.if-number-ne-GLOBAL.false) (next_of_lem c.next.ensures) (passed _ _ _ c.expect.ensures c.in_ok-d.was)
+    (c.optional.ensures "PARAMETERS" (record { known = refl; same = refl }) ts (passed-ready (global-ready ready (sym c.number.ensures ∙ c.if-number-ne-GLOBAL.false)
+    (next_of_lem c.next.ensures)) (passed _ _ _ c.expect.ensures c.in_ok-d.was) (omega arith))) c.in_ok-e.was (c.optional-2.ensures "DEFINITIONS" (record {
       known = refl;
       same = refl;
-    }) ts (accepted c.in-Parsed-p.is (c.optional-p.ensures "PARAMETERS" (record { known = refl; same = refl }) ts
-    (passed-ready (global-ready ready (sym c.number.ensures ∙ c.if-number-ne-GLOBAL.false) (next_of_lem c.next.ensures)) (passed _ _ _ c.expect-r.ensures c.in-Parsed.is)
-    (omega arith)))).took.ready) c.in_default-q.is
+    }) ts (accepted c.in_ok-e.was (c.optional.ensures "PARAMETERS" (record { known = refl; same = refl }) ts
+    (passed-ready (global-ready ready (sym c.number.ensures ∙ c.if-number-ne-GLOBAL.false) (next_of_lem c.next.ensures)) (passed _ _ _ c.expect.ensures c.in_ok-d.was)
+    (omega arith)))).took.ready) c.in_err-f.was)
 
-pub expect-requires : goal.expect-requires
-expect-requires c =
+pub expect-requires-2 : goal.expect-requires-2
+expect-requires-2 c =
     let z = c.requires in (
-      (accepted c.in-Parsed-q.is
-          (c.optional-q.ensures "DEFINITIONS" (record { known = refl; same = refl }) z.tokens
-          (accepted c.in-Parsed-p.is
-          (c.optional-p.ensures "PARAMETERS" (record { known = refl; same = refl }) z.tokens
+      (accepted c.in_ok-f.was
+          (c.optional-2.ensures "DEFINITIONS" (record { known = refl; same = refl }) z.tokens
+          (accepted c.in_ok-e.was
+          (c.optional.ensures "PARAMETERS" (record { known = refl; same = refl }) z.tokens
           (passed-ready (global-ready z.ready (sym c.number.ensures ∙ c.if-number-ne-GLOBAL.false) (next_of_lem c.next.ensures)) (passed _ _ _
-          c.expect-r.ensures
-          c.in-Parsed.is)
+          c.expect.ensures
+          c.in_ok-d.was)
           (omega arith)))).took.ready)).took.ready.fits,
       omega arith,
     )
 
 pub returns : goal.returns
 returns c =
-    λ ts ready. global-tail ready (sym c.number.ensures ∙ c.if-number-ne-GLOBAL.false) (next_of_lem c.next.ensures) (passed _ _ _ c.expect-r.ensures c.in-Parsed.is)
-    (c.optional-p.ensures "PARAMETERS" (record { known = refl; same = refl }) ts (passed-ready (global-ready ready (sym c.number.ensures ∙ c.if-number-ne-GLOBAL.false)
-    (next_of_lem c.next.ensures)) (passed _ _ _ c.expect-r.ensures c.in-Parsed.is) (omega arith))) c.in-Parsed-p.is (c.optional-q.ensures "DEFINITIONS" (record {
+    λ ts ready. global-tail ready (sym c.number.ensures ∙ c.if-number-ne-GLOBAL.false) (next_of_lem c.next.ensures) (passed _ _ _ c.expect.ensures c.in_ok-d.was)
+    (c.optional.ensures "PARAMETERS" (record { known = refl; same = refl }) ts (passed-ready (global-ready ready (sym c.number.ensures ∙ c.if-number-ne-GLOBAL.false)
+    (next_of_lem c.next.ensures)) (passed _ _ _ c.expect.ensures c.in_ok-d.was) (omega arith))) c.in_ok-e.was (c.optional-2.ensures "DEFINITIONS" (record {
       known = refl;
       same =
           refl;
-    }) ts (accepted c.in-Parsed-p.is (c.optional-p.ensures "PARAMETERS" (record { known = refl; same = refl }) ts (passed-ready (global-ready ready (sym c.number.ensures
-    ∙ c.if-number-ne-GLOBAL.false) (next_of_lem c.next.ensures)) (passed _ _ _ c.expect-r.ensures c.in-Parsed.is) (omega arith)))).took.ready) c.in-Parsed-q.is c.expect.ensures
+    }) ts (accepted c.in_ok-e.was (c.optional.ensures "PARAMETERS" (record { known = refl; same = refl }) ts (passed-ready (global-ready ready (sym c.number.ensures
+    ∙ c.if-number-ne-GLOBAL.false) (next_of_lem c.next.ensures)) (passed _ _ _ c.expect.ensures c.in_ok-d.was) (omega arith)))).took.ready) c.in_ok-f.was c.expect-2.ensures

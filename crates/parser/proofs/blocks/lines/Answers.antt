@@ -1,3 +1,4 @@
+use Rattle.node.proofs.ReturnedLaws.{raised}
 use Rattle.parser.proofs.Laws.Blocks.{behind-ready, lines_start, lines-close, lines-stop, lines-tail, line-further, lines-again}
 use Rattle.parser.proofs.Laws.Loops.{listing_readied}
 use Rattle.parser.proofs.Laws.Passing.{next_of_lem, next_fits, inside}
@@ -32,34 +33,35 @@ pub returns-then-number-eq-CLOSE_BRACE : goal.returns-then-number-eq-CLOSE_BRACE
 returns-then-number-eq-CLOSE_BRACE c =
     λ ts ready. let h = c.loop-which.invariant.1 ts ready in lines-close c.args.which h c.loop-which.invariant.0 (next_of_lem c.next-e.ensures) (sym c.number.ensures ∙ c.if-number-eq-CLOSE_BRACE.true) (next_of_lem c.next.ensures)
 
-pub line-r-requires : goal.line-r-requires
-line-r-requires c =
+pub line-requires : goal.line-requires
+line-requires c =
     let z = c.requires.0 in let h = c.loop-which.invariant.1 z.tokens z.ready in
     (listing_readied z h, c.loop-which.invariant.0)
 
-pub shape_of-work-in_default : goal.shape_of-work-in_default
-shape_of-work-in_default c =
+pub shape_of-work-in_err-f : goal.shape_of-work-in_err-f
+shape_of-work-in_err-f c =
     let z = c.requires.0 in
     let h = c.loop-which.invariant.1 z.tokens z.ready in
-    (c.line-r.ensures z.tokens h.going.took.ready).kept.len ∙ h.going.kept.len
+    (c.line.ensures z.tokens h.going.took.ready).kept.len ∙ h.going.kept.len
 
-pub returns-in_default : goal.returns-in_default
-returns-in_default c =
-    λ ts ready. let h = c.loop-which.invariant.1 ts ready in lines-stop c.args.which h c.loop-which.invariant.0 (next_of_lem c.next-e.ensures)
-    (λ e. c.if-number-eq-CLOSE_BRACE.false (c.number.ensures ∙ e)) (c.line-r.ensures ts h.going.took.ready) c.in_default.is
+pub returns-in_err-f : goal.returns-in_err-f
+returns-in_err-f c =
+    rw (raised c.from_residual.ensures ∙ sym c.in_err-f.was)
+    (λ ts ready. let h = c.loop-which.invariant.1 ts ready in lines-stop c.args.which h c.loop-which.invariant.0 (next_of_lem c.next-e.ensures)
+    (λ e. c.if-number-eq-CLOSE_BRACE.false (c.number.ensures ∙ e)) (c.line.ensures ts h.going.took.ready) c.in_err-f.was)
 
 pub number-requires-in-loop-which : goal.number-requires-in-loop-which
 number-requires-in-loop-which c =
     let z = c.requires.0 in
     let h = c.loop-which.invariant.1 z.tokens z.ready in
-    (accepted c.in-Parsed.is (c.line-r.ensures z.tokens h.going.took.ready)).took.ready.fits
+    (accepted c.in_ok-f.was (c.line.ensures z.tokens h.going.took.ready)).took.ready.fits
 
 pub expect-requires : goal.expect-requires
 expect-requires c =
     let z = c.requires.0 in
     let h = c.loop-which.invariant.1 z.tokens z.ready in (
-      (accepted c.in-Parsed.is
-          (c.line-r.ensures z.tokens h.going.took.ready)).took.ready.fits,
+      (accepted c.in_ok-f.was
+          (c.line.ensures z.tokens h.going.took.ready)).took.ready.fits,
       omega arith,
     )
 
@@ -67,20 +69,20 @@ pub shape_of-work-then-number-ne-SEMICOLON : goal.shape_of-work-then-number-ne-S
 shape_of-work-then-number-ne-SEMICOLON c =
     let z = c.requires.0 in
     let h = c.loop-which.invariant.1 z.tokens z.ready in
-    (c.line-r.ensures z.tokens h.going.took.ready).kept.len ∙ h.going.kept.len
+    (c.line.ensures z.tokens h.going.took.ready).kept.len ∙ h.going.kept.len
 
 pub returns-then-number-ne-SEMICOLON : goal.returns-then-number-ne-SEMICOLON
 returns-then-number-ne-SEMICOLON c =
     λ ts ready. let h = c.loop-which.invariant.1 ts ready in lines-tail c.args.which h c.loop-which.invariant.0 (next_of_lem c.next-e.ensures)
-    (λ e. c.if-number-eq-CLOSE_BRACE.false (c.number.ensures ∙ e)) (c.line-r.ensures ts h.going.took.ready) c.in-Parsed.is
+    (λ e. c.if-number-eq-CLOSE_BRACE.false (c.number.ensures ∙ e)) (c.line.ensures ts h.going.took.ready) c.in_ok-f.was
     (λ e. c.if-number-ne-SEMICOLON.true (c.number-in-loop-which.ensures ∙ e)) c.expect.ensures
 
 pub loop-which-smaller : goal.loop-which-smaller
 loop-which-smaller c =
     let z = c.requires.0 in
     let h = c.loop-which.invariant.1 z.tokens z.ready in
-    let t = (accepted c.in-Parsed.is
-    (c.line-r.ensures z.tokens h.going.took.ready)).took in
+    let t = (accepted c.in_ok-f.was
+    (c.line.ensures z.tokens h.going.took.ready)).took in
     omega (
       arith,
       line-further c.args.which h
@@ -88,7 +90,7 @@ loop-which-smaller c =
           (next_of_lem c.next-e.ensures)
           (λ e. c.if-number-eq-CLOSE_BRACE.false
           (c.number.ensures ∙ e))
-          (c.line-r.ensures z.tokens h.going.took.ready) c.in-Parsed.is,
+          (c.line.ensures z.tokens h.going.took.ready) c.in_ok-f.was,
       t.onward.count,
       t.ready.fits.inside,
     )
@@ -97,8 +99,8 @@ pub loop-which-preserved : goal.loop-which-preserved
 loop-which-preserved c = (
   let z = c.requires.0 in
       let h = c.loop-which.invariant.1 z.tokens z.ready in
-      inside (accepted c.in-Parsed.is
-      (c.line-r.ensures z.tokens h.going.took.ready)).took.ready (sym c.number-in-loop-which.ensures ∙ c.if-number-ne-SEMICOLON.false)
+      inside (accepted c.in_ok-f.was
+      (c.line.ensures z.tokens h.going.took.ready)).took.ready (sym c.number-in-loop-which.ensures ∙ c.if-number-ne-SEMICOLON.false)
       (omega arith),
   λ ts ready. let h = c.loop-which.invariant.1 ts ready in
       lines-again c.args.which h
@@ -106,6 +108,6 @@ loop-which-preserved c = (
       (next_of_lem c.next-e.ensures)
       (λ e. c.if-number-eq-CLOSE_BRACE.false
       (c.number.ensures ∙ e))
-      (c.line-r.ensures ts h.going.took.ready) c.in-Parsed.is
+      (c.line.ensures ts h.going.took.ready) c.in_ok-f.was
       (sym c.number-in-loop-which.ensures ∙ c.if-number-ne-SEMICOLON.false),
 )

@@ -1,4 +1,5 @@
 -- `enumeration` meets its contract: the laws of a name, a sign and what follows.
+use Rattle.node.proofs.ReturnedLaws.{raised}
 use Rattle.entries.specs.Flat.{each, flat_identifier, flat_definition}
 use Rattle.entries.specs.Kinds as Kind
 use Rattle.language.specs.Sections.{identifiers_of}
@@ -8,42 +9,44 @@ use Rattle.parser.proofs.Laws.Enumerations.{name-refused, sign-refused, rest_rea
 use Rattle.parser.proofs.Laws.Passing.{passed, passed-ready, passed_readied}
 use Rattle.parser.proofs.Laws.Rows.{accepted}
 use lib.ListN.{length}
-use mathlib.Core.Path.{refl}
+use mathlib.Core.Path.{refl, sym, ◌∙◌}
 use native.Mathlib.Omega.{arith}
 use Rattle.parser.proofs.enumeration.enumeration.Goals as goal
 
-pub returns-in_default : goal.returns-in_default
-returns-in_default c =
-    λ ts ready. name-refused Kind.enumeration "=" refl (λ us. identifiers_of (length us) us) Enumerated (each flat_identifier) flat_definition (λ t b. refl) (c.leaf-r.ensures Name (record {
+pub returns-in_err-d : goal.returns-in_err-d
+returns-in_err-d c =
+    rw (raised c.from_residual.ensures ∙ sym c.in_err-d.was)
+    (λ ts ready. name-refused Kind.enumeration "=" refl (λ us. identifiers_of (length us) us) Enumerated (each flat_identifier) flat_definition (λ t b. refl) (c.leaf.ensures Name (record {
       plain = refl;
       same = refl;
-    }) ts ready) c.in_default.is
+    }) ts ready) c.in_err-d.was)
 
-pub expect-q-requires : goal.expect-q-requires
-expect-q-requires c =
+pub expect-requires : goal.expect-requires
+expect-requires c =
     let p = c.requires in
-    let r = c.leaf-r.ensures Name (record { plain = refl; same = refl }) p.tokens p.ready in
-    let a = accepted c.in-Parsed.is r in (a.took.ready.fits, omega arith)
+    let r = c.leaf.ensures Name (record { plain = refl; same = refl }) p.tokens p.ready in
+    let a = accepted c.in_ok-d.was r in (a.took.ready.fits, omega arith)
 
-pub returns-in_default-q : goal.returns-in_default-q
-returns-in_default-q c =
-    λ ts ready. sign-refused Kind.enumeration "=" refl (λ us. identifiers_of (length us) us) Enumerated (each flat_identifier) flat_definition (λ t b. refl) (c.leaf-r.ensures Name (record {
+pub returns-in_err-e : goal.returns-in_err-e
+returns-in_err-e c =
+    rw (raised c.from_residual-in_err-e.ensures ∙ sym c.in_err-e.was)
+    (λ ts ready. sign-refused Kind.enumeration "=" refl (λ us. identifiers_of (length us) us) Enumerated (each flat_identifier) flat_definition (λ t b. refl) (c.leaf.ensures Name (record {
       plain = refl;
       same = refl;
-    }) ts ready) c.in-Parsed.is c.expect-q.ensures c.in_default-q.is
+    }) ts ready) c.in_ok-d.was c.expect.ensures c.in_err-e.was)
 
 pub identifiers-requires : goal.identifiers-requires
 identifiers-requires c =
     let p = c.requires in
-    let r = c.leaf-r.ensures Name (record { plain = refl; same = refl }) p.tokens p.ready in
-    let a = accepted c.in-Parsed.is r in
-    passed_readied a.took.ready (passed _ _ _ c.expect-q.ensures c.in-Parsed-q.is) (omega arith)
+    let r = c.leaf.ensures Name (record { plain = refl; same = refl }) p.tokens p.ready in
+    let a = accepted c.in_ok-d.was r in
+    passed_readied a.took.ready (passed _ _ _ c.expect.ensures c.in_ok-e.was) (omega arith)
 
 pub returns : goal.returns
 returns c =
-    λ ts ready. rest_read Kind.enumeration "=" refl (λ us. identifiers_of (length us) us) Enumerated (each flat_identifier) flat_definition (λ t b. refl) (c.leaf-r.ensures Name (record {
+    λ ts ready. rest_read Kind.enumeration "=" refl (λ us. identifiers_of (length us) us) Enumerated (each flat_identifier) flat_definition (λ t b. refl) (c.leaf.ensures Name (record {
       plain
           = refl;
       same = refl;
-    }) ts ready) c.in-Parsed.is c.expect-q.ensures c.in-Parsed-q.is (c.identifiers.ensures ts (passed-ready (accepted c.in-Parsed.is
-    (c.leaf-r.ensures Name (record { plain = refl; same = refl }) ts ready)).took.ready (passed _ _ _ c.expect-q.ensures c.in-Parsed-q.is) (omega arith)))
+    }) ts ready) c.in_ok-d.was c.expect.ensures c.in_ok-e.was (c.identifiers.ensures ts (passed-ready (accepted c.in_ok-d.was
+    (c.leaf.ensures Name (record { plain = refl; same = refl }) ts ready)).took.ready (passed _ _ _ c.expect.ensures c.in_ok-e.was) (omega arith)))

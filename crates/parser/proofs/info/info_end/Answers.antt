@@ -1,4 +1,5 @@
 -- `info_end` meets its contract: TAGS or the end.
+use Rattle.node.proofs.ReturnedLaws.{raised}
 use Rattle.parser.proofs.Laws.InfoReads.{no_tags, with_tags}
 use Rattle.parser.proofs.Laws.Passing.{next_of_lem, next_fits, inside, past-ready, passed, passed-ready}
 use Rattle.parser.proofs.Laws.Rows.{accepted}
@@ -15,53 +16,55 @@ pub next-requires : goal.next-requires
 next-requires c =
     let z = c.requires in next_fits z.ready (sym c.number.ensures ∙ c.if-number-ne-TAGS.false) (omega arith)
 
-pub expect-r-requires : goal.expect-r-requires
-expect-r-requires c =
+pub expect-requires-2 : goal.expect-requires-2
+expect-requires-2 c =
     let z = c.requires in (
       (past-ready z.ready (next_of_lem c.next.ensures)
           (inside z.ready (sym c.number.ensures ∙ c.if-number-ne-TAGS.false) (omega arith))).fits,
       omega arith,
     )
 
-pub returns-in_default : goal.returns-in_default
-returns-in_default c =
-    λ ts ready. with_tags ready (sym c.number.ensures ∙ c.if-number-ne-TAGS.false) (next_of_lem c.next.ensures)
+pub returns-in_err-d : goal.returns-in_err-d
+returns-in_err-d c =
+    rw (raised c.from_residual.ensures ∙ sym c.in_err-d.was)
+    (λ ts ready. with_tags ready (sym c.number.ensures ∙ c.if-number-ne-TAGS.false) (next_of_lem c.next.ensures)
     (skim_refused (expect_spelt (past-ready ready (next_of_lem c.next.ensures) (inside ready (sym c.number.ensures ∙ c.if-number-ne-TAGS.false) (omega arith))) ":"
-    (record { known = refl; same = refl }) c.expect-r.ensures) _ c.in_default.is)
+    (record { known = refl; same = refl }) c.expect-2.ensures) _ c.in_err-d.was))
 
-pub tags-q-requires : goal.tags-q-requires
-tags-q-requires c =
+pub tags-requires : goal.tags-requires
+tags-requires c =
     let z = c.requires in
     record {
       tokens = z.tokens;
       ready = passed-ready (past-ready z.ready (next_of_lem c.next.ensures)
           (inside z.ready (sym c.number.ensures ∙ c.if-number-ne-TAGS.false) (omega arith)))
-          (passed _ _ _ c.expect-r.ensures c.in-Parsed.is) (omega arith);
+          (passed _ _ _ c.expect-2.ensures c.in_ok-d.was) (omega arith);
     }
 
-pub returns-in_default-q : goal.returns-in_default-q
-returns-in_default-q c =
-    λ ts ready. with_tags ready (sym c.number.ensures ∙ c.if-number-ne-TAGS.false) (next_of_lem c.next.ensures) (skim_then (expect_spelt (past-ready ready (next_of_lem c.next.ensures)
-    (inside ready (sym c.number.ensures ∙ c.if-number-ne-TAGS.false) (omega arith))) ":" (record { known = refl; same = refl }) c.expect-r.ensures) _ c.in-Parsed.is (λ a.
-    skim_refused (c.tags-q.ensures ts (passed-ready (past-ready ready (next_of_lem c.next.ensures) (inside ready (sym c.number.ensures ∙ c.if-number-ne-TAGS.false) (omega arith)))
-    (passed _ _ _ c.expect-r.ensures c.in-Parsed.is) (omega arith))) _ c.in_default-q.is))
+pub returns-in_err-e : goal.returns-in_err-e
+returns-in_err-e c =
+    rw (raised c.from_residual-in_err-e.ensures ∙ sym c.in_err-e.was)
+    (λ ts ready. with_tags ready (sym c.number.ensures ∙ c.if-number-ne-TAGS.false) (next_of_lem c.next.ensures) (skim_then (expect_spelt (past-ready ready (next_of_lem c.next.ensures)
+    (inside ready (sym c.number.ensures ∙ c.if-number-ne-TAGS.false) (omega arith))) ":" (record { known = refl; same = refl }) c.expect-2.ensures) _ c.in_ok-d.was (λ a.
+    skim_refused (c.tags.ensures ts (passed-ready (past-ready ready (next_of_lem c.next.ensures) (inside ready (sym c.number.ensures ∙ c.if-number-ne-TAGS.false) (omega arith)))
+    (passed _ _ _ c.expect-2.ensures c.in_ok-d.was) (omega arith))) _ c.in_err-e.was)))
 
-pub expect-requires-2 : goal.expect-requires-2
-expect-requires-2 c =
+pub expect-requires-3 : goal.expect-requires-3
+expect-requires-3 c =
     let z = c.requires in (
-      (accepted c.in-Parsed-q.is (c.tags-q.ensures z.tokens
+      (accepted c.in_ok-e.was (c.tags.ensures z.tokens
           (passed-ready (past-ready z.ready (next_of_lem c.next.ensures)
           (inside z.ready (sym c.number.ensures ∙
           c.if-number-ne-TAGS.false) (omega arith)))
-          (passed _ _ _ c.expect-r.ensures c.in-Parsed.is) (omega arith)))).took.ready.fits,
+          (passed _ _ _ c.expect-2.ensures c.in_ok-d.was) (omega arith)))).took.ready.fits,
       omega arith,
     )
 
 pub returns : goal.returns
 returns c =
     λ ts ready. with_tags ready (sym c.number.ensures ∙ c.if-number-ne-TAGS.false) (next_of_lem c.next.ensures) (skim_then (expect_spelt (past-ready ready (next_of_lem c.next.ensures)
-    (inside ready (sym c.number.ensures ∙ c.if-number-ne-TAGS.false) (omega arith))) ":" (record { known = refl; same = refl }) c.expect-r.ensures) _ c.in-Parsed.is (λ a.
-    skim_then (c.tags-q.ensures ts (passed-ready (past-ready ready (next_of_lem c.next.ensures) (inside ready (sym c.number.ensures ∙ c.if-number-ne-TAGS.false) (omega arith))) (passed
-    _ _ _ c.expect-r.ensures c.in-Parsed.is) (omega arith))) _ c.in-Parsed-q.is (λ b. expect_spelt (accepted c.in-Parsed-q.is (c.tags-q.ensures ts (passed-ready
+    (inside ready (sym c.number.ensures ∙ c.if-number-ne-TAGS.false) (omega arith))) ":" (record { known = refl; same = refl }) c.expect-2.ensures) _ c.in_ok-d.was (λ a.
+    skim_then (c.tags.ensures ts (passed-ready (past-ready ready (next_of_lem c.next.ensures) (inside ready (sym c.number.ensures ∙ c.if-number-ne-TAGS.false) (omega arith))) (passed
+    _ _ _ c.expect-2.ensures c.in_ok-d.was) (omega arith))) _ c.in_ok-e.was (λ b. expect_spelt (accepted c.in_ok-e.was (c.tags.ensures ts (passed-ready
     (past-ready ready (next_of_lem c.next.ensures) (inside ready (sym c.number.ensures ∙ c.if-number-ne-TAGS.false) (omega arith)))
-    (passed _ _ _ c.expect-r.ensures c.in-Parsed.is) (omega arith)))).took.ready "}" (record { known = refl; same = refl }) c.expect-2.ensures)))
+    (passed _ _ _ c.expect-2.ensures c.in_ok-d.was) (omega arith)))).took.ready "}" (record { known = refl; same = refl }) c.expect-3.ensures)))

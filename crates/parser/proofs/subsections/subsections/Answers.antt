@@ -1,9 +1,10 @@
+use Rattle.node.proofs.ReturnedLaws.{raised}
 use Rattle.parser.proofs.Laws.Rows.{accepted}
 use Rattle.parser.proofs.Laws.SubsectionLoop.{no_marks_lem, below_none, standing_start, word_none, row, row-code, word-inside, word-seen, subsections-stop, subsection-further, subsections-again, subsections_end}
 use Rattle.parser.proofs.Laws.SubsectionReads.{marked_none, marked_some}
 use Rattle.parser.specs.Headings.{heading_number}
 use lib.ListN.{length-set}
-use mathlib.Core.Path.{refl, ap, ◌∙◌}
+use mathlib.Core.Path.{refl, ap, ◌∙◌, sym}
 use native.Mathlib.Omega.{arith}
 use Rattle.parser.proofs.subsections.subsections.Goals as goal
 
@@ -48,8 +49,8 @@ returns-then-before-n-ne0 c =
     λ ts ready. let h = c.loop-work.invariant.1 ts ready in subsections_end h (word-seen h (c.heading-n.ensures ∙ ap heading_number c.number.ensures)
     (below_none _ c.heading-n.ensures c.if-n-eq-NO_HEADING.false) (marked_some _ c.if-before-n-ne0.true)) (c.ending-then-before-n-ne0.ensures ts h.going.took.ready)
 
-pub subsection-r-requires : goal.subsection-r-requires
-subsection-r-requires c =
+pub subsection-requires : goal.subsection-requires
+subsection-requires c =
     let z = c.requires in let h = c.loop-work.invariant.1 z.tokens z.ready in (
       record { tokens = z.tokens; ready = h.going.took.ready },
       word-inside h
@@ -58,20 +59,21 @@ subsection-r-requires c =
       (below_none _ c.heading-n.ensures c.if-n-eq-NO_HEADING.false),
     )
 
-pub shape_of-work-in_default : goal.shape_of-work-in_default
-shape_of-work-in_default c =
+pub shape_of-work-in_err-e : goal.shape_of-work-in_err-e
+shape_of-work-in_err-e c =
     let z = c.requires in
     let h = c.loop-work.invariant.1 z.tokens z.ready in
-    (c.subsection-r.ensures (row h (c.heading-n.ensures ∙ ap heading_number c.number.ensures) (below_none _ c.heading-n.ensures c.if-n-eq-NO_HEADING.false)).row.heading
+    (c.subsection.ensures (row h (c.heading-n.ensures ∙ ap heading_number c.number.ensures) (below_none _ c.heading-n.ensures c.if-n-eq-NO_HEADING.false)).row.heading
     (row-code h (c.heading-n.ensures ∙ ap heading_number c.number.ensures) (below_none _ c.heading-n.ensures c.if-n-eq-NO_HEADING.false)) z.tokens h.going.took.ready).kept.len
     ∙ h.going.kept.len
 
-pub returns-in_default : goal.returns-in_default
-returns-in_default c =
-    λ ts ready. let h = c.loop-work.invariant.1 ts ready in subsections-stop h (c.heading-n.ensures ∙ ap heading_number c.number.ensures)
+pub returns-in_err-e : goal.returns-in_err-e
+returns-in_err-e c =
+    rw (raised c.from_residual.ensures ∙ sym c.in_err-e.was)
+    (λ ts ready. let h = c.loop-work.invariant.1 ts ready in subsections-stop h (c.heading-n.ensures ∙ ap heading_number c.number.ensures)
     (below_none _ c.heading-n.ensures c.if-n-eq-NO_HEADING.false) (marked_none _ c.if-before-n-ne0.false)
-    (c.subsection-r.ensures (row h (c.heading-n.ensures ∙ ap heading_number c.number.ensures) (below_none _ c.heading-n.ensures c.if-n-eq-NO_HEADING.false)).row.heading
-    (row-code h (c.heading-n.ensures ∙ ap heading_number c.number.ensures) (below_none _ c.heading-n.ensures c.if-n-eq-NO_HEADING.false)) ts h.going.took.ready) c.in_default.is
+    (c.subsection.ensures (row h (c.heading-n.ensures ∙ ap heading_number c.number.ensures) (below_none _ c.heading-n.ensures c.if-n-eq-NO_HEADING.false)).row.heading
+    (row-code h (c.heading-n.ensures ∙ ap heading_number c.number.ensures) (below_none _ c.heading-n.ensures c.if-n-eq-NO_HEADING.false)) ts h.going.took.ready) c.in_err-e.was)
 
 pub bounds-before-n-in-loop-work : goal.bounds-before-n-in-loop-work
 bounds-before-n-in-loop-work c =
@@ -81,7 +83,7 @@ pub loop-work-smaller : goal.loop-work-smaller
 loop-work-smaller c =
     let z = c.requires in
     let h = c.loop-work.invariant.1 z.tokens z.ready in
-    let t = (accepted c.in-Parsed.is (c.subsection-r.ensures
+    let t = (accepted c.in_ok-e.was (c.subsection.ensures
     (row h (c.heading-n.ensures ∙ ap heading_number
     c.number.ensures)
     (below_none _ c.heading-n.ensures
@@ -96,7 +98,7 @@ loop-work-smaller c =
           c.number.ensures)
           (below_none _ c.heading-n.ensures
           c.if-n-eq-NO_HEADING.false) (marked_none _ c.if-before-n-ne0.false)
-          (c.subsection-r.ensures
+          (c.subsection.ensures
           (row h (c.heading-n.ensures ∙ ap heading_number
           c.number.ensures)
           (below_none _ c.heading-n.ensures
@@ -104,7 +106,7 @@ loop-work-smaller c =
           (row-code h (c.heading-n.ensures ∙ ap heading_number
           c.number.ensures)
           (below_none _ c.heading-n.ensures
-          c.if-n-eq-NO_HEADING.false)) z.tokens h.going.took.ready) c.in-Parsed.is,
+          c.if-n-eq-NO_HEADING.false)) z.tokens h.going.took.ready) c.in_ok-e.was,
       t.onward.count,
       t.ready.fits.inside,
     )
@@ -118,7 +120,7 @@ loop-work-preserved c = (
       c.number.ensures)
       (below_none _ c.heading-n.ensures
       c.if-n-eq-NO_HEADING.false) (marked_none _ c.if-before-n-ne0.false)
-      (c.subsection-r.ensures
+      (c.subsection.ensures
       (row h (c.heading-n.ensures ∙ ap heading_number
       c.number.ensures)
       (below_none _ c.heading-n.ensures
@@ -132,5 +134,5 @@ loop-work-preserved c = (
         (below_none _ c.heading-n.ensures
             c.if-n-eq-NO_HEADING.false),
         c.loop-work.invariant.0,
-      )) c.in-Parsed.is,
+      )) c.in_ok-e.was,
 )

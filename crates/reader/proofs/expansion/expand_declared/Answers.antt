@@ -8,9 +8,9 @@ pub gather-gathering-requires : goal.gather-gathering-requires
 gather-gathering-requires c =
     record { sizes = sizes c.requires.sized (omega arith); some_given = some_given c.start-from.ensures c.requires.some_ready }
 
-pub returns-in_default : goal.returns-in_default
-returns-in_default c =
-    λ x d h. lines-refused c.start-from.ensures c.gather-gathering.ensures h _ _ c.in_default.is (c.ungathered.ensures _ _ c.in_default.is)
+pub returns-in-Err : goal.returns-in-Err
+returns-in-Err c =
+    λ x d h. lines-refused c.start-from.ensures c.gather-gathering.ensures h _ _ c.in-Err.is c.uncounted.ensures
 
 pub slice_bounds-finish-end-2 : goal.slice_bounds-finish-end-2
 slice_bounds-finish-end-2 c =
@@ -18,22 +18,10 @@ slice_bounds-finish-end-2 c =
 
 pub finish-a-requires : goal.finish-a-requires
 finish-a-requires c =
-    some-complete c.start-from.ensures c.gather-gathering.ensures c.requires.some_ready c.in-Lines.is
-
-pub shape_of-memory : goal.shape_of-memory
-shape_of-memory c =
-    c.memory-1.given
-
-pub shape_of-nodes : goal.shape_of-nodes
-shape_of-nodes c =
-    c.nodes-1.given
-
-pub shape_of-signals : goal.shape_of-signals
-shape_of-signals c =
-    c.signals-1.given
+    some-complete c.start-from.ensures c.gather-gathering.ensures c.requires.some_ready c.in-Ok.is
 
 pub returns : goal.returns
 returns c =
     λ x d h.
-    let g = lines-complete c.start-from.ensures c.gather-gathering.ensures h c.in-Lines.is in
+    let g = lines-complete c.start-from.ensures c.gather-gathering.ensures h c.in-Ok.is in
     finishes_counted g (c.finish-a.ensures x d g) c.count_lines-counts.ensures

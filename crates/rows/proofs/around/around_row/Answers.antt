@@ -2,7 +2,6 @@
 use native.Mathlib.Omega.{arith}
 use mathlib.Core.Path.{◌∙◌}
 use Rattle.rows.specs.ReadyLaws.{placed-still}
-use Rattle.rows.specs.Row.{sweep}
 use Rattle.rows.specs.SweepingLaws.{held_after, same_bit, around-once, around_twice}
 use Rattle.rows.proofs.around.around_row.Goals as goal
 
@@ -32,15 +31,15 @@ returns-then-s-seed c =
     around-once w c.args.op seed-of.ensures sweep.ensures (c.get_bit-s.ensures ∙ sweep.ensures.part.here w.l (omega arith) c.requires.l_lt_n)
     (same_bit _ _ c.if-s-seed.true)
 
-pub again-requires : goal.again-requires
-again-requires c =
+pub sweep-requires-2 : goal.sweep-requires-2
+sweep-requires-2 c =
     let sweep = c.sweep in
     let p = c.requires.placed.0 in
-    record { placed = (placed-still p sweep.ensures.part.kept.size, c.requires.placed.1); held = held_after p sweep.ensures }
+    record { placed = (placed-still p sweep.ensures.part.kept.size, c.requires.placed.1); held = λ f. held_after p sweep.ensures }
 
 pub shape_of-rows : goal.shape_of-rows
 shape_of-rows c =
-    let again = c.again in
+    let again = c.sweep-2 in
     let sweep = c.sweep in
     again.ensures.part.kept.size ∙ sweep.ensures.part.kept.size
 
@@ -49,6 +48,6 @@ returns c =
     let seed-of = c.seed_of-seed in
     let sweep = c.sweep in
     let get-bit = c.get_bit-s in
-    let again = c.again in
+    let again = c.sweep-2 in
     let w = c.args.lasso in
     around_twice w c.args.op c.requires.placed.0 seed-of.ensures sweep.ensures (get-bit.ensures ∙ sweep.ensures.part.here w.l (omega arith) c.requires.l_lt_n) again.ensures

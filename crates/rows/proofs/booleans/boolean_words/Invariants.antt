@@ -1,13 +1,10 @@
--- `boolean_words` meets its contract: after j bytes the buffer is what j byte steps make of it.
-use Prim.Native.Nat.{◌-◌, ◌%◌, ◌≤◌}
+-- `boolean_words` meets its contract: after i words the buffer is what 8 * i byte steps make of it.
+use Prim.Native.Nat.{◌*◌}
 use mathlib.Core.Path.{◌≡◌}
 use Rattle.node.specs.Kinds.{shape_of}
 use Rattle.rows.specs.Booleans.{byte_steps}
 use Rattle.rows.specs.BooleanLaws.{Bytes}
 use Rattle.rows.proofs.booleans.boolean_words.Given as goal
 
-abbrev pub invariant-loop-j : goal.invariant-loop-j
-invariant-loop-j l = (l.j % 8 ≡ 0) × ((l.j ≤ l.count) × (Bytes l.rows × (l.rows ≡ byte_steps (shape_of l.kind) l.initial.rows l.first l.second l.base l.j)))
-
-abbrev pub decreases-loop-j : goal.decreases-loop-j
-decreases-loop-j l = l.count - l.j
+abbrev pub invariant-loop-i : goal.invariant-loop-i
+invariant-loop-i l = Bytes l.rows × (l.rows ≡ byte_steps (shape_of l.kind) l.initial.rows l.first l.second l.base (8 * l.i))

@@ -13,14 +13,14 @@ nonzero_div-rows c =
 pub overflow_mul-rows : goal.overflow_mul-rows
 overflow_mul-rows c =
     let power = c.power-p in
-    record { fits = omega (arith, div-mul-le_self c.wide-x.result power.result) }
+    record { fits = omega (arith, div-mul-le_self c.from.result power.result) }
 
 pub overflow_cast-rows : goal.overflow_cast-rows
 overflow_cast-rows c =
     let power = c.power-p in
-    record { fits = omega (arith, div-mul-le_self c.wide-x.result power.result) }
+    record { fits = omega (arith, div-mul-le_self c.from.result power.result) }
 
 pub returns : goal.returns
 returns c =
     let power = c.power-p in
-    rw (power.ensures, c.wide-x.ensures.0) refl
+    rw (power.ensures, c.from.ensures) refl

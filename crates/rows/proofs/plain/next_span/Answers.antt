@@ -3,6 +3,7 @@ use Prim.Native.Nat.{◌+◌, ◌-◌, ◌<◌}
 use mathlib.Core.Path.{◌≡◌, ap, ◌∙◌}
 use native.Mathlib.Omega.{arith}
 use Rattle.bits.specs.Bits.{digit}
+use Rattle.bits.specs.BitLaws.{from_bool_digit}
 use Rattle.recordings.specs.Lasso.{next}
 use Rattle.recordings.specs.LassoLaws.{next-lt}
 use Rattle.rows.specs.Memory.{bits_at}
@@ -54,7 +55,7 @@ get_bit-b-requires c =
 
 pub ahead-requires : goal.ahead-requires
 ahead-requires c =
-    digit-small c.get_bit-b.result c.long_digit.ensures
+    digit-small c.get_bit-b.result (c.from.ensures ∙ from_bool_digit c.get_bit-b.result)
 
 pub returns : goal.returns
 returns c =
@@ -67,4 +68,4 @@ returns c =
     let last : s.at + s.size - 1 ≡ s.at + (s.size - 1) = omega (arith, spot.some) in
     rw c.ahead.ensures
     (span-next s.lasso.n s.lasso.l s.at s.size row _ _ spot.fits spot.most (span-row s.rows.now s.first s.at s.size _ load.ensures)
-    (c.long_digit.ensures ∙ ap digit (get-bit.ensures ∙ ap row (after.ensures ∙ ap (next s.lasso.n s.lasso.l) last))))
+    (c.from.ensures ∙ from_bool_digit get-bit.result ∙ ap digit (get-bit.ensures ∙ ap row (after.ensures ∙ ap (next s.lasso.n s.lasso.l) last))))

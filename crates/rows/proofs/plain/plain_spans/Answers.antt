@@ -13,13 +13,13 @@ pub loop-k-init : goal.loop-k-init
 loop-k-init c =
     let s = c.args.s in
     let e : s.from ≡ s.from + s.size * 0 = omega arith in
-    (omega arith, part_to e (part_none _ _ _ _ _))
+    part_to e (part_none _ _ _ _ _)
 
 here : (c : goal.In-loop-k) → let loop = c.loop-k in
     let s = c.args.s in
     Lies loop.rows c.args.lasso c.args.base (s.from + s.size * loop.k) s.size
 here c =
-    lies c.loop-k.k (ready-still c.requires.ready c.loop-k.invariant.1.kept) c.requires.plain.1 (omega arith)
+    lies c.loop-k.k (ready-still c.requires.ready c.loop-k.invariant.kept) c.requires.plain.1 (omega arith)
 
 pub overflow_mul-p : goal.overflow_mul-p
 overflow_mul-p c =
@@ -33,18 +33,18 @@ here-2 : (c : goal.In-loop-k) → let loop = c.loop-k in
     let s = c.args.s in
     Lies loop.rows c.args.lasso c.args.base (s.from + s.size * loop.k) s.size
 here-2 c =
-    lies c.loop-k.k (ready-still c.requires.ready c.loop-k.invariant.1.kept) c.requires.plain.1 (omega arith)
+    lies c.loop-k.k (ready-still c.requires.ready c.loop-k.invariant.kept) c.requires.plain.1 (omega arith)
 
 pub span_value-v-requires : goal.span_value-v-requires
 span_value-v-requires c =
     let loop = c.loop-k in
-    record { operands = operands (ready-still c.requires.ready loop.invariant.1.kept); plain = (c.requires.plain.0, (here-2 c).spot) }
+    record { operands = operands (ready-still c.requires.ready loop.invariant.kept); plain = (c.requires.plain.0, (here-2 c).spot) }
 
 here-3 : (c : goal.After-store-arg-1) → let loop = c.loop-k in
     let s = c.args.s in
     Lies loop.rows c.args.lasso c.args.base (s.from + s.size * loop.k) s.size
 here-3 c =
-    lies c.loop-k.k (ready-still c.requires.ready c.loop-k.invariant.1.kept) c.requires.plain.1 (omega arith)
+    lies c.loop-k.k (ready-still c.requires.ready c.loop-k.invariant.kept) c.requires.plain.1 (omega arith)
 
 pub overflow_mul-base : goal.overflow_mul-base
 overflow_mul-base c =
@@ -58,46 +58,34 @@ pub store-requires : goal.store-requires
 store-requires c =
     (here-3 c).target
 
-pub overflow_add-k : goal.overflow_add-k
-overflow_add-k c =
-    let loop-test = c.loop-k-test in
-    omega (arith, loop-test.true)
-
-pub loop-k-smaller : goal.loop-k-smaller
-loop-k-smaller c =
-    let loop-test = c.loop-k-test in
-    omega (arith, loop-test.true)
-
 here-4 : (c : goal.After-slice_known-in-loop-k-1) → let loop = c.loop-k in
     let s = c.args.s in
     Lies loop.rows c.args.lasso c.args.base (s.from + s.size * loop.k) s.size
 here-4 c =
-    lies c.loop-k.k (ready-still c.requires.ready c.loop-k.invariant.1.kept) c.requires.plain.1 (omega arith)
+    lies c.loop-k.k (ready-still c.requires.ready c.loop-k.invariant.kept) c.requires.plain.1 (omega arith)
 
 pub loop-k-preserved : goal.loop-k-preserved
 loop-k-preserved c =
-    let loop-test = c.loop-k-test in
     let span_value = c.span_value-v in
     let store = c.store in
     let s = c.args.s in
     let loop = c.loop-k in
-    let taken = loop-test.true in
-    let kept = loop.invariant.1.kept in
-    let next = place s.from s.size s.count loop.k c.requires.plain.1.regular (omega (arith, taken)) in
+    let kept = loop.invariant.kept in
+    let next = place s.from s.size s.count loop.k c.requires.plain.1.regular (omega arith) in
     let at = s.from + s.size * loop.k in
     let spot = (here-4 c).spot in
     let v = span_as span_value.ensures (λ q a b. same_row c.requires.ready kept q (omega (arith, b, spot.fits))) in
     let more = part_up c.args.lasso.n c.args.base (op_row c.args.recording.now c.args.rows.now c.args.lasso c.args.op) at s.size _
-    spot.fits v store.ensures (omega arith) loop.invariant.1 in
-    (omega (arith, taken), part_to (sym next.next) more)
+    spot.fits v store.ensures (omega arith) loop.invariant in
+    part_to (sym next.next) more
 
 pub shape_of-rows : goal.shape_of-rows
 shape_of-rows c =
-    c.loop-k.invariant.1.kept.size
+    c.loop-k.invariant.kept.size
 
 pub returns : goal.returns
 returns c =
     let s = c.args.s in
     let loop = c.loop-k in
     let e : s.from + s.size * loop.k ≡ s.from + s.size * s.count = (let z : loop.k ≡ s.count = omega arith in ap (λ x. s.from + s.size * x) z) in
-    part_to e loop.invariant.1
+    part_to e loop.invariant

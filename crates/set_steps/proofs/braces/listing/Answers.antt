@@ -63,7 +63,7 @@ overflow_cast-result c =
     let at-if1 = c.if-size_at-eq1 in
     let at-expression = c.expression-j in
     let i = (listing-elementary c.requires.evaluates (λ q. at-if1.false (at-size-at.ensures ∙ q)) c.requires.ready).few in
-    let s = element-small c.args.work.now (c.args.m.value - 1) in
+    let s = element-small c.args.source.now.work.now (c.args.m.value - 1) in
     let z = at-expression.ensures in omega arith
 
 pub returns : goal.returns

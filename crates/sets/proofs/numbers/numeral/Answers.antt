@@ -1,27 +1,23 @@
 use native.Mathlib.Omega.{arith}
-use mathlib.Core.Path.{refl}
 use native.Mathlib.Numerals.{add-one}
 use Rattle.sets.specs.NumberLaws.{reading_on, numeral-read, numeral_large, digits_low, digits-high, digits-end}
 use Rattle.sets.proofs.numbers.numeral.Goals as goal
 
-pub loop-i-init : goal.loop-i-init
-loop-i-init c = (omega arith, record { value = refl })
-
 pub returns-then-c-lt48 : goal.returns-then-c-lt48
 returns-then-c-lt48 c =
-    numeral-read _ _ _ _ c.loop-i.invariant.1 c.loop-i.invariant.0 (digits_low _ _ c.loop-i-test.true (rw c.wide-c.ensures.0 at c.if-c-lt48.true))
+    numeral-read _ _ _ _ c.loop-i.invariant.1 c.loop-i.invariant.0 (digits_low _ _ c.loop-i-test.true (rw c.from-c.ensures at c.if-c-lt48.true))
 
 pub returns-then-c-gt57 : goal.returns-then-c-gt57
 returns-then-c-gt57 c =
-    numeral-read _ _ _ _ c.loop-i.invariant.1 c.loop-i.invariant.0 (digits-high _ _ c.loop-i-test.true (rw c.wide-c.ensures.0 at c.if-c-gt57.true))
+    numeral-read _ _ _ _ c.loop-i.invariant.1 c.loop-i.invariant.0 (digits-high _ _ c.loop-i-test.true (rw c.from-c.ensures at c.if-c-gt57.true))
 
 pub returns-then-v-gt-MAX_NUMBER : goal.returns-then-v-gt-MAX_NUMBER
 returns-then-v-gt-MAX_NUMBER c =
-    numeral_large _ _ _ _ (reading_on _ _ _ _ _ c.loop-i.invariant.1 c.loop-i-test.true c.wide-c.ensures.0 c.if-c-lt48.false c.if-c-gt57.false) c.if-v-gt-MAX_NUMBER.true
+    numeral_large _ _ _ _ (reading_on _ _ _ _ _ c.loop-i.invariant.1 c.loop-i-test.true c.from-c.ensures c.if-c-lt48.false c.if-c-gt57.false) c.if-v-gt-MAX_NUMBER.true
 
 pub loop-i-preserved : goal.loop-i-preserved
 loop-i-preserved c =
-    (omega arith, rw add-one (reading_on _ _ _ _ _ c.loop-i.invariant.1 c.loop-i-test.true c.wide-c.ensures.0 c.if-c-lt48.false c.if-c-gt57.false))
+    (omega arith, rw add-one (reading_on _ _ _ _ _ c.loop-i.invariant.1 c.loop-i-test.true c.from-c.ensures c.if-c-lt48.false c.if-c-gt57.false))
 
 pub returns : goal.returns
 returns c =

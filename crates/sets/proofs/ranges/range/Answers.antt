@@ -1,7 +1,6 @@
 -- `ranges::range` meets its contract: each way out is one side of a test of the definition, and the elements are filled in.
-use native.Mathlib.Omega.{arith}
 use mathlib.Core.Path.{refl}
-use Rattle.sets.specs.RangeLaws.{range-flat, range_none, range-over, range-filled, range-fits}
+use Rattle.sets.specs.RangeLaws.{range-flat, range_none, range-over, range-filled}
 use Rattle.sets.proofs.ranges.range.Goals as goal
 
 pub returns-then-y-x : goal.returns-then-y-x
@@ -12,10 +11,6 @@ returns-then-z-x c = range_none _ _ _ _ _ c.if-y-x.false c.if-z-x.true
 
 pub returns-then-more : goal.returns-then-more
 returns-then-more c = range-over _ _ _ _ _ c.if-y-x.false c.if-z-x.false c.if-more.true
-
-pub fill-requires : goal.fill-requires
-fill-requires c =
-    record { max_elements_in_bounds = omega arith; n_le_max_elements = (omega arith, λ i l. let most = range-fits _ _ _ c.if-y-x.false c.if-z-x.false i (omega arith) in let fits = c.ranges.z in omega arith) }
 
 pub returns : goal.returns
 returns c =

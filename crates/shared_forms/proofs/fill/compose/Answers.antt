@@ -42,9 +42,6 @@ bounds-numbers-j c =
     let f = compose_few c.loop-j.invariant.1 in
     omega arith
 
-pub loop-j-smaller : goal.loop-j-smaller
-loop-j-smaller c = let t = c.loop-j-test.true in omega arith
-
 pub loop-j-preserved : goal.loop-j-preserved
 loop-j-preserved c =
     let inv = c.loop-j.invariant in

@@ -1,4 +1,5 @@
 -- `fill::part` meets its contract: an operand's form is noted, and any other part is put.
+use mathlib.Core.Path.{refl}
 use native.Mathlib.Omega.{arith}
 use Rattle.shared_forms.specs.StepLaws.{operand_true, operand_false}
 use Rattle.shared_forms.specs.ComposeLaws.{steps-inside, steps_loaded, steps-put}
@@ -13,7 +14,7 @@ bounds-notes-place c =
 
 pub returns-then-is_operand : goal.returns-then-is_operand
 returns-then-is_operand c =
-    steps_loaded (operand_true c.is_operand.ensures c.if-is_operand.true) c.place_of-place.ensures c.wide.ensures.0
+    steps_loaded (operand_true c.is_operand.ensures c.if-is_operand.true) c.place_of-place.ensures refl
 
 pub word_over-word-requires : goal.word_over-word-requires
 word_over-word-requires c =

@@ -31,9 +31,6 @@ step_at-step-requires c =
 pub note-requires : goal.note-requires
 note-requires c = ask-notable c.loop-j.invariant.1 c.loop-j-test.true c.step_at-step.ensures
 
-pub loop-j-smaller : goal.loop-j-smaller
-loop-j-smaller c = let t = c.loop-j-test.true in omega arith
-
 pub loop-j-preserved : goal.loop-j-preserved
 loop-j-preserved c =
     let inv = c.loop-j.invariant in

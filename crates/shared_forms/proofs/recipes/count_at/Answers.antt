@@ -4,4 +4,4 @@ use Rattle.shared_forms.specs.RecipeLaws.{count-byte}
 use Rattle.shared_forms.proofs.recipes.count_at.Goals as goal
 
 pub returns : goal.returns
-returns c = let p = c.requires in c.wide.ensures.0 ∙ rw p.whole (count-byte _ p.inside)
+returns c = let p = c.requires in c.from.ensures ∙ rw p.whole (count-byte _ p.inside)

@@ -8,7 +8,7 @@ returns c =
     let p = c.requires in
     let b = step-bytes _ p.of.inside _ p.here p.few in
     record {
-      kind-is = c.wide-kind.ensures.0 ∙ rw p.of.whole b.kind-is;
-      first-is = c.wide-first.ensures.0 ∙ rw p.of.whole b.first-is;
-      second_is = c.wide-second.ensures.0 ∙ rw p.of.whole b.second_is;
+      kind-is = c.from-kind.ensures ∙ rw p.of.whole b.kind-is;
+      first-is = c.from-first.ensures ∙ rw p.of.whole b.first-is;
+      second_is = c.from-second.ensures ∙ rw p.of.whole b.second_is;
     }

@@ -1,5 +1,4 @@
 -- `spellings::intern::intern` meets its contract: after j turns the first j tokens have their numbers.
-use Prim.Native.Nat.{◌≤◌, ◌-◌}
 use mathlib.Core.Path.{◌≡◌}
 use lib.ListN.{length}
 use Rattle.language.specs.Tokens.{tokens}
@@ -8,7 +7,4 @@ use Rattle.spellings.proofs.intern.intern.Given as goal
 
 abbrev pub invariant-loop-j : goal.invariant-loop-j
 invariant-loop-j l =
-    (l.j ≤ l.count) × (length l.links ≡ length l.initial.links) × (length l.byte ≡ length l.initial.byte) × (length l.ids ≡ length l.initial.ids) × Indexed (tokens l.text) l.j l.links l.byte l.nodes l.ids
-
-abbrev pub decreases-loop-j : goal.decreases-loop-j
-decreases-loop-j l = l.count - l.j
+    (length l.links ≡ length l.initial.links) × (length l.byte ≡ length l.initial.byte) × (length l.ids ≡ length l.initial.ids) × Indexed (tokens l.text) l.j l.links l.byte l.nodes l.ids

@@ -8,7 +8,7 @@ bounds-links-link c =
 
 pub loop-at-init : goal.loop-at-init
 loop-at-init c =
-    (c.wide-at.ensures.0, λ t. seek_start t _ _ c.requires.1 c.wide-bits.ensures.0)
+    (c.from-at.ensures, λ t. seek_start t _ _ c.requires.1 c.from-bits.ensures)
 
 pub bounds-byte-at : goal.bounds-byte-at
 bounds-byte-at c =
@@ -52,7 +52,7 @@ loop-at-preserved c =
     let loop = c.loop-at in
     let loop-test = c.loop-at-test in
     let if1 = c.if-byte-at in
-    (c.wide-at-in-loop-at.ensures.0, λ t. (seek-further t _ _ c.requires.1 (loop.invariant.1 t) loop.invariant.0 loop-test.true if1.false).0)
+    (c.from-at-in-loop-at.ensures, λ t. (seek-further t _ _ c.requires.1 (loop.invariant.1 t) loop.invariant.0 loop-test.true if1.false).0)
 
 pub returns : goal.returns
 returns c =

@@ -1,5 +1,4 @@
 -- `spellings::trie::spell` meets its contract: after i bytes `node` has their spelling.
-use Prim.Native.Nat.{◌≤◌, ◌-◌}
 use mathlib.Core.Path.{◌≡◌}
 use lib.ListN.{length}
 use Rattle.spellings.specs.Trie.{Trie, Spells, part}
@@ -7,7 +6,4 @@ use Rattle.spellings.proofs.trie.spell.Given as goal
 
 abbrev pub invariant-loop-i : goal.invariant-loop-i
 invariant-loop-i l =
-    (l.i ≤ l.len) × (length l.links ≡ length l.initial.links) × (length l.byte ≡ length l.initial.byte) × ((t : Trie l.initial.links l.initial.byte l.nodes) → Spells t l.links l.byte (part l.at l.i l.text) l.count l.node)
-
-abbrev pub decreases-loop-i : goal.decreases-loop-i
-decreases-loop-i l = l.len - l.i
+    (length l.links ≡ length l.initial.links) × (length l.byte ≡ length l.initial.byte) × ((t : Trie l.initial.links l.initial.byte l.nodes) → Spells t l.links l.byte (part l.at l.i l.text) l.count l.node)

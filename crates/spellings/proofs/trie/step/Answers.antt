@@ -15,8 +15,8 @@ bounds-links-link c =
 pub returns-then-old-ne0 : goal.returns-then-old-ne0
 returns-then-old-ne0 c =
     let seek = c.seek-link in
-    let wide = c.wide-old in
-    λ t. step_old t _ _ _ (seek.ensures t) wide.ensures.0 c.if-old-ne0.true
+    let from = c.from-old in
+    λ t. step_old t _ _ _ (seek.ensures t) from.ensures c.if-old-ne0.true
 
 pub offset_bounds-links-link-2 : goal.offset_bounds-links-link-2
 offset_bounds-links-link-2 c =
@@ -31,5 +31,5 @@ bounds-links-link-2 c =
 pub returns : goal.returns
 returns c =
     let seek = c.seek-link in
-    let wide = c.wide-old in
-    λ t. step_new t _ _ _ (seek.ensures t) wide.ensures.0 c.if-old-ne0.false c.requires.1 c.requires.3 c.ranges.b.fits
+    let from = c.from-old in
+    λ t. step_new t _ _ _ (seek.ensures t) from.ensures c.if-old-ne0.false c.requires.1 c.requires.3 c.ranges.b.fits

@@ -1,10 +1,11 @@
 -- `repetitions::repeated` meets its contract: as many nodes of X as the frame keeps go behind the nodes that have come.
 use native.Mathlib.Omega.{arith}
+use Rattle.std.specs.Prelude.{Ok}
+use Rattle.machine.specs.declared.Move.TheVariants.{Next}
 use mathlib.Core.Path.{refl, ap, ◌∙◌}
 use Prim.Native.Nat.{◌+◌}
 use Rattle.temporal_steps.specs.RepetitionLaws.{repeated-steps}
 use Rattle.machine.specs.Fields.{value_field}
-use Rattle.machine.specs.declared.Move.TheVariants.{Next}
 use Rattle.machine.specs.declared.Machine.{Machine}
 use Rattle.machine.specs.Moves.{wrote}
 use Rattle.machine.specs.ContractLaws.{takes-to-write-as}
@@ -23,4 +24,4 @@ pub returns : goal.returns
 returns c =
     let same = c.wrote.ensures ∙ ap (λ (n : Machine). wrote n c.capped.result) c.popped.ensures in
     let isFormula = c.if-m-ne-NODES.false in
-    takes-to-write-as (ap Next same) (repeated-steps c.requires.waiting isFormula refl c.nexts-end.ensures c.capped.ensures)
+    takes-to-write-as (ap (λ (y : Machine). Ok (Next y)) same) (repeated-steps c.requires.waiting isFormula refl c.nexts-end.ensures c.capped.ensures)

@@ -1,8 +1,9 @@
 -- `unaries::capping` meets its contract: the operator's node goes behind the nodes that have come.
 use native.Mathlib.Omega.{arith}
+use Rattle.std.specs.Prelude.{Ok}
+use Rattle.machine.specs.declared.Move.TheVariants.{Next}
 use mathlib.Core.Path.{refl, ap, ◌∙◌}
 use Rattle.temporal_steps.specs.UnaryLaws.{capping-small, capping-steps}
-use Rattle.machine.specs.declared.Move.TheVariants.{Next}
 use Rattle.machine.specs.declared.Machine.{Machine}
 use Rattle.machine.specs.Moves.{wrote}
 use Rattle.machine.specs.ContractLaws.{takes-to-write-as}
@@ -33,4 +34,4 @@ returns c =
     let same = c.wrote.ensures ∙ ap (λ (n : Machine). wrote n c.capped.result) c.popped.ensures in
     let isFormula = c.if-m-ne-NODES.false in
     let code = c.prefix_at.ensures in
-    takes-to-write-as (ap Next same) (capping-steps c.requires.waiting isFormula refl code c.cap-n.ensures c.capped.ensures)
+    takes-to-write-as (ap (λ (y : Machine). Ok (Next y)) same) (capping-steps c.requires.waiting isFormula refl code c.cap-n.ensures c.capped.ensures)

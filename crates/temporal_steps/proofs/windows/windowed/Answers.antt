@@ -1,5 +1,7 @@
 -- `windows::windowed` meets its contract: the chain of copies, then the nodes of X, go behind the nodes that have come.
 use native.Mathlib.Omega.{arith}
+use Rattle.std.specs.Prelude.{Ok}
+use Rattle.machine.specs.declared.Move.TheVariants.{Next}
 use mathlib.Core.Path.{refl, ap, ◌∙◌}
 use Prim.Native.Nat.{◌+◌}
 use Rattle.temporal_steps.specs.WindowLaws.{windowed-order, windowed-steps}
@@ -7,7 +9,6 @@ use Rattle.language.specs.Expansion.{window_operator}
 use Rattle.temporal_steps.specs.Windows.{window_by}
 use Rattle.machine.specs.Fields.{at_field, value_field, other_field}
 use Rattle.machine.specs.OperatorLaws.{binary-small}
-use Rattle.machine.specs.declared.Move.TheVariants.{Next}
 use Rattle.machine.specs.declared.Machine.{Machine}
 use Rattle.machine.specs.Moves.{wrote}
 use Rattle.machine.specs.ContractLaws.{takes-to-write-as}
@@ -53,4 +54,4 @@ returns c =
     let kind = c.prefix_at.ensures in
     let operator = c.chaining-operator.ensures in
     let chained = c.window-chained.ensures in
-    takes-to-write-as (ap Next same) (windowed-steps c.requires.waiting isFormula refl kind operator refl refl refl chained c.nexts-n.ensures c.capped.ensures)
+    takes-to-write-as (ap (λ (y : Machine). Ok (Next y)) same) (windowed-steps c.requires.waiting isFormula refl kind operator refl refl refl chained c.nexts-n.ensures c.capped.ensures)

@@ -1,10 +1,6 @@
 -- The table from entry to entry.
-use Prim.Native.Nat.{◌≤◌, ◌-◌}
 use Rattle.types.specs.Declaring.{Declared}
 use Rattle.types.proofs.table.declare_all.Given as goal
 
 abbrev pub invariant-loop-i : goal.invariant-loop-i
-invariant-loop-i l = Declared l.refs l.work l.initial.table l.table l.i × (l.i ≤ l.entries)
-
-abbrev pub decreases-loop-i : goal.decreases-loop-i
-decreases-loop-i l = l.entries - l.i
+invariant-loop-i l = Declared l.refs l.work l.initial.table l.table l.i

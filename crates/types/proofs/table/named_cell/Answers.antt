@@ -4,7 +4,7 @@ use Rattle.types.proofs.table.named_cell.Goals as goal
 
 pub returns : goal.returns
 returns c = (
-  named_of c.args.refs.now c.args.work.now c.args.i c.wide-reference.result c.cell_at-c.result c.cell_at-c.ensures.0
-      c.wide-reference.ensures.0,
+  named_of c.args.refs.now c.args.work.now c.args.i c.from-reference.result c.cell_at-c.result c.cell_at-c.ensures.0
+      c.from-reference.ensures,
   c.cell_at-c.ensures.1,
 )

@@ -2,6 +2,7 @@
 use native.Mathlib.Omega.{arith}
 use mathlib.Core.Path.{refl}
 use Prim.Native.Nat.{◌+◌}
+use Rattle.node.proofs.ReturnedLaws.{raised}
 use Rattle.value_steps.specs.CombinedLaws.{right-two, right-lowers, right-makes, right-refuses}
 use Rattle.machine.specs.Fields.{base_field, at_field, count_field}
 use Rattle.machine.specs.MisfitLaws.{set-misfits}
@@ -36,20 +37,20 @@ pub place_at-place-requires : goal.place_at-place-requires
 place_at-place-requires c =
     let f = topped-entry c.requires.topped in (f.few, f.work)
 
-pub combine-r-requires : goal.combine-r-requires
-combine-r-requires c =
+pub combine-requires : goal.combine-requires
+combine-requires c =
     right-two c.requires.waiting c.if-m-ne-SET.false c.requires.topped refl refl c.above-to.ensures
 
-pub returns-in_default : goal.returns-in_default
-returns-in_default c =
-    rw (c.unworked.ensures _ _ c.in_default.is)
+pub returns-in_err-n : goal.returns-in_err-n
+returns-in_err-n c =
+    rw (raised c.from_residual.ensures)
     (right-refuses c.requires.waiting c.if-m-ne-SET.false
     (record { entry = refl; base-is = refl; left_at = refl; left-count = refl; to_is = c.above-to.ensures; operator = c.infix_at-operator.ensures; place = c.place_at-place.ensures })
-    (rw c.in_default.is at c.combine-r.ensures))
+    (rw c.in_err-n.was at c.combine.ensures))
 
 pub lower-requires : goal.lower-requires
 lower-requires c =
-    let g = rw c.in-Value.is at c.combine-r.ensures in
+    let g = rw c.in_ok-n.was at c.combine.ensures in
     let l = right-lowers c.requires.waiting c.if-m-ne-SET.false c.requires.topped refl c.above-to.ensures g.set.few in
     let z = g.kept.len in
     (l.down, (let i = l.inside in omega arith))
@@ -62,4 +63,4 @@ pub returns : goal.returns
 returns c =
     right-makes c.requires.waiting c.if-m-ne-SET.false
     (record { entry = refl; base-is = refl; left_at = refl; left-count = refl; to_is = c.above-to.ensures; operator = c.infix_at-operator.ensures; place = c.place_at-place.ensures })
-    (rw c.in-Value.is at c.combine-r.ensures) c.lower.ensures
+    (rw c.in_ok-n.was at c.combine.ensures) c.lower.ensures

@@ -6,13 +6,9 @@ use Rattle.machine.specs.OpenLaws.{ready_open}
 use Rattle.machine.specs.ContractLaws.{steps_next}
 use Rattle.value_steps.proofs.named.name.Goals as goal
 
-pub bounds-refs-k : goal.bounds-refs-k
-bounds-refs-k c =
+pub bounds-source-k : goal.bounds-source-k
+bounds-source-k c =
     reference-inside c.requires.ready (let e = c.requires.evaluates.mode in omega arith)
-
-pub overflow_cast-r : goal.overflow_cast-r
-overflow_cast-r c =
-    omega (arith, c.type_inv.refs c.args.m.value)
 
 pub overflow_add-i : goal.overflow_add-i
 overflow_add-i c =
@@ -38,12 +34,12 @@ returns-then-r-ge-MAX_NAMES c =
 pub bounds-memory-at : goal.bounds-memory-at
 bounds-memory-at c =
     let at-if1 = c.if-r-ge-MAX_NAMES in
-    let i = note_inside {r = get_or c.args.refs.now c.args.m.value 0} c.requires.ready (let e = at-if1.false in omega arith) in omega arith
+    let i = note_inside {r = get_or c.args.source.now.refs.now c.args.m.value 0} c.requires.ready (let e = at-if1.false in omega arith) in omega arith
 
 pub bounds-memory-at-2 : goal.bounds-memory-at-2
 bounds-memory-at-2 c =
     let at-if1 = c.if-r-ge-MAX_NAMES in
-    let i = note_inside {r = get_or c.args.refs.now c.args.m.value 0} c.requires.ready (let e = at-if1.false in omega arith) in omega arith
+    let i = note_inside {r = get_or c.args.source.now.refs.now c.args.m.value 0} c.requires.ready (let e = at-if1.false in omega arith) in omega arith
 
 pub enclose-requires : goal.enclose-requires
 enclose-requires c =
@@ -57,7 +53,7 @@ returns-then-sort c =
     let at-if2 = c.if-sort in
     let at-enclose = c.enclose in
     body-steps c.requires.evaluates refl (let e = at-if1.false in omega arith)
-    (note_first c.args.memory.now (get_or c.args.refs.now c.args.m.value 0)) refl at-if2.true at-enclose.ensures
+    (note_first c.args.memory.now (get_or c.args.source.now.refs.now c.args.m.value 0)) refl at-if2.true at-enclose.ensures
 
 pub noted-requires : goal.noted-requires
 noted-requires c =
@@ -69,7 +65,7 @@ noted-requires c =
         named = c.requires.evaluates;
         same = refl;
         declared = (let e = at-if1.false in omega arith);
-        no_body = λ z. at-if2.false (note_first c.args.memory.now (get_or c.args.refs.now c.args.m.value 0) ∙ z);
+        no_body = λ z. at-if2.false (note_first c.args.memory.now (get_or c.args.source.now.refs.now c.args.m.value 0) ∙ z);
       };
     }
 

@@ -1,5 +1,4 @@
 -- `copy_out` meets its contract. The loop's invariant: the first i nodes are stored, moved.
-use Prim.Native.Nat.{◌-◌, ◌≤◌}
 use mathlib.Core.Path.{◌≡◌}
 use lib.ListN.{length}
 use lib.Seq.{sets}
@@ -7,7 +6,4 @@ use Rattle.writing.specs.Parts.{moves}
 use Rattle.writing.proofs.copies.copy_out.Given as goal
 
 abbrev pub invariant-loop-i : goal.invariant-loop-i
-invariant-loop-i l = (l.i ≤ l.size) × ((length l.res ≡ length l.initial.res) × (l.res ≡ sets l.initial.res l.at (moves l.from l.at l.i l.table)))
-
-abbrev pub decreases-loop-i : goal.decreases-loop-i
-decreases-loop-i l = l.size - l.i
+invariant-loop-i l = (length l.res ≡ length l.initial.res) × (l.res ≡ sets l.initial.res l.at (moves l.from l.at l.i l.table))

@@ -10,11 +10,8 @@ overflow_add-at c = omega (arith, place-from c.args.from c.args.size c.args.n)
 
 pub loop-i-init : goal.loop-i-init
 loop-i-init c = (
-  omega arith,
-  (
-    place-one c.args.from c.args.size,
-    layered_none c.args.from c.args.size (omega (arith, place-from c.args.from c.args.size c.args.n)),
-  ),
+  place-one c.args.from c.args.size,
+  layered_none c.args.from c.args.size (omega (arith, place-from c.args.from c.args.size c.args.n)),
 )
 
 pub copy-at-requires : goal.copy-at-requires
@@ -26,8 +23,8 @@ copy-at-requires c =
 pub loop-i-preserved : goal.loop-i-preserved
 loop-i-preserved c =
     let room = place_mono c.args.from c.args.size {i = suc (suc c.loop-i.i)} {n = suc c.args.n} (omega arith) in
-    let m = layered_more c.loop-i.i c.args.from c.args.size c.loop-i.invariant.1.1 c.loop-i.invariant.1.0 (omega arith) c.copy-at.ensures in
-    (omega arith, rw add-one m)
+    let m = layered_more c.loop-i.i c.args.from c.args.size c.loop-i.invariant.1 c.loop-i.invariant.0 (omega arith) c.copy-at.ensures in
+    rw add-one m
 
 pub returns : goal.returns
-returns c = let e : c.loop-i.i ≡ c.args.n = omega arith in rw (sym e) c.loop-i.invariant.1.1
+returns c = let e : c.loop-i.i ≡ c.args.n = omega arith in rw (sym e) c.loop-i.invariant.1

@@ -1,8 +1,0 @@
-// A byte as a word of 32 bits.
-ghost use Rattle.std.specs.Prelude.{◌≡◌, ◌<◌};
-
-pub fn wide(x: u8) -> u32
-    ensures { (result ≡ x) × (result < 256) }
-{
-    x as u32
-}
