@@ -27,5 +27,8 @@ pub fn copy_words(from: &[u32], n: usize, out: &mut [u32])
     requires { (n ≤ length from.now) × (n ≤ length out.old) }
     ensures { out.new ≡ paste out.old 0 from.now n }
 {
-    out[..n].copy_from_slice(&from[..n]);
+    // Word by word: `copy_from_slice` is compiled to a call of memmove, which callers in C need not have.
+    for i in 0..n {
+        out[i] = from[i];
+    }
 }
