@@ -4,7 +4,6 @@
 
 ghost use Rattle.std.specs.Prelude.{◌≤◌, length, IfOk};
 
-use basics::MAX_TOLD;
 use diagnosis::{Diagnosis, diagnose};
 use evaluator::Verdict;
 use judging::ROWS;
@@ -89,10 +88,7 @@ fn run<R: Files + Input + Eprint>(
         Err(error) => return eprintln!(rt; "verdict: the recording cannot be read: {error}"),
     };
     match input::fill(&mut rt.reader(), text) {
-        Ok(n) => {
-            let told = size.min(MAX_TOLD) as u32;
-            print_verdict(to, &text[..n], &start[..first], told, work)
-        }
+        Ok(n) => print_verdict(to, &text[..n], &start[..first], basics::told(size), work),
         Err(error) => eprintln!(rt; "verdict: the text cannot be read: {error}"),
     }
 }
