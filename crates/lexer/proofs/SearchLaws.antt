@@ -1,44 +1,75 @@
 -- The search among signs and words: an entry is compared byte by byte, and entries that begin with another byte are passed over.
-use Prim.Native.Nat.{ℕ, zero, suc, ◌+◌, ◌*◌, ◌-◌, ◌≤◌, ◌<◌}
+use Prim.Native.Nat.{ℕ, zero, suc, ◌+◌, ◌-◌, ◌≤◌, ◌<◌}
 use mathlib.Core.List.{List, [], ◌∷◌}
 use mathlib.Core.Bool.{Bool, true, false, ◌&&◌, ◌||◌, not, false≢true}
 use mathlib.Core.Path.{◌≡◌, refl, sym, ap, ◌∙◌, subst}
 use lib.Dec.{eqb}
-use lib.ListN.{length, get_or, take, drop, drop_of_length-le, length-drop}
-use Rattle.std.proofs.lemmas.List.{length-take-le, get_or-take, get_or-drop, ext_get_or}
-use lib.Pointwise.{pointwise}
+use lib.ListN.{length, get_or, drop, drop_of_length-le, length-drop}
 use lib.Seq.{drop-cons, drop-drop}
+use native.Mathlib.Nat.{add-zero}
+use native.Mathlib.Numerals.{add-one}
 use native.Mathlib.Omega.{arith}
 use borrow.Author.Tests.{eq-eqb, ne_eqb}
 use Rattle.language.specs.Bytes.{starts}
 use Rattle.language.proofs.Laws.Basics.Tests.{pick, leave, and_left, and_right, and_false, and-last_false}
+use Rattle.language.proofs.Laws.Grammar.PieceLaws.{starts-fits}
 use Rattle.lexer.specs.Spelling.{count, entries, entry, search, fitting}
-use Rattle.lexer.specs.Tables.{begins, differs, passes, NextWith, RightRows}
+use Rattle.lexer.proofs.Choices.{refute}
+use Rattle.lexer.specs.Tables.{begins, differs, passes, NextWith}
 
--- the row of entry k holds its bytes
-pub row_entry : (rs : List ℕ) → RightRows rs → (k n : ℕ) → k < count → n ≡ length (entry k) → 16 * k + 2 + n ≤ length rs
-    → take (16 * k + 2 + n - (16 * k + 2)) (drop (16 * k + 2) rs) ≡ entry k
-row_entry rs r k n h e room = subst (λ m. take m (drop (16 * k + 2) rs) ≡ entry k) (sym part) held
-  where
-    part : 16 * k + 2 + n - (16 * k + 2) ≡ n
-    part = omega arith
+-- one byte of an entry and of the text
+module _ (w s : List ℕ) (i j : ℕ) (hw : j < length w) (hs : i < length s) where
+  starts_on : get_or s i 0 ≡ get_or w j 0 → starts (drop j w) (drop i s) ≡ starts (drop (j + 1) w) (drop (i + 1) s)
+  starts_on e = rw (add-one i, add-one j, drop-cons s i 0 hs, drop-cons w j 0 hw) (ap (λ p. p && starts (drop (suc j) w) (drop (suc i) s)) (eq-eqb _ _ (sym e)))
 
-    size : length (take n (drop (16 * k + 2) rs)) ≡ n
-    size = length-take-le n (drop (16 * k + 2) rs) (rw (length-drop (16 * k + 2) rs) (omega arith))
+  starts_off : (get_or s i 0 ≡ get_or w j 0 → ⊥) → starts (drop j w) (drop i s) ≡ false
+  starts_off e = rw (drop-cons s i 0 hs, drop-cons w j 0 hw) (ap (λ p. p && starts (drop (suc j) w) (drop (suc i) s)) (ne_eqb _ _ (λ f. e (sym f))))
 
-    held : take n (drop (16 * k + 2) rs) ≡ entry k
-    held = ext_get_or 0 _ _ (size ∙ e) (λ j l. get_or-take n (drop (16 * k + 2) rs) j 0 (omega (arith, size)) ∙ get_or-drop (16 * k + 2) rs j 0 ∙ r.byte k j h (omega (arith, size)))
+starts-all : (w s : List ℕ) (j : ℕ) → length w ≤ j → starts (drop j w) s ≡ true
+starts-all w s j h = rw (drop_of_length-le w h)
 
--- the text starts with an entry
-pub starts_pointwise : (w s : List ℕ) → pointwise eqb w (take (length w) s) ≡ starts w s
-starts_pointwise [] s = refl
-starts_pointwise (x ∷ w) [] = refl
-starts_pointwise (x ∷ w) (y ∷ s) = ap (λ p. eqb x y && p) (starts_pointwise w s)
+starts_short : (w s : List ℕ) → length s < length w → starts w s ≡ false
+starts_short w s h = refute (starts w s) (λ e. let f = starts-fits w s e in omega arith)
 
--- an entry of size n is what fits, by its size and its bytes
-pub fits_both : (w s : List ℕ) (n size : ℕ) (a b : Bool) → n ≡ length w → a ≡ (eqb size 0 || eqb n size) → b ≡ pointwise eqb w (take (length w) s) → (a && b) ≡ fitting size s w
-unfolding fitting
-fits_both w s n size a b e f g = ap (λ p. p && b) (f ∙ ap (λ m. eqb size 0 || eqb m size) e) ∙ ap (λ p. (eqb size 0 || eqb (length w) size) && p) (g ∙ starts_pointwise w s)
+-- j bytes of the entry w are those of the text from `at` on
+pub record Comparing (w text : List ℕ) (at j : ℕ) : Type 0 where
+  pub within : j ≤ length w
+  pub room : at + length w ≤ length text
+  pub same : starts w (drop at text) ≡ starts (drop j w) (drop (at + j) text)
+
+module _ (w text : List ℕ) (at n size : ℕ) (e : n ≡ length w) where
+  pub fit_size : (eqb size 0 || eqb n size) ≡ false → false ≡ fitting size (drop at text) w
+  unfolding fitting
+  fit_size f = sym (and_false _ _ (ap (λ m. eqb size 0 || eqb m size) (sym e) ∙ f))
+
+  fit_sized : (eqb size 0 || eqb n size) ≡ true → starts w (drop at text) ≡ fitting size (drop at text) w
+  unfolding fitting
+  fit_sized f = ap (λ p. p && starts w (drop at text)) (sym (ap (λ m. eqb size 0 || eqb m size) (sym e) ∙ f))
+
+  pub fit_short : (eqb size 0 || eqb n size) ≡ true → length text - at < n → false ≡ fitting size (drop at text) w
+  fit_short f l = sym (starts_short w (drop at text) (rw (length-drop at text) (omega arith))) ∙ fit_sized f
+
+  pub comparing-start : at ≤ length text → n ≤ length text - at → Comparing w text at 0
+  comparing-start h l = record { within = omega arith; room = omega arith; same = ap (λ m. starts w (drop m text)) (sym (add-zero at)) }
+
+  module _ (j : ℕ) (c : Comparing w text at j) where
+    pub comparing-on : j < n → get_or text (at + j) 0 ≡ get_or w j 0 → Comparing w text at (j + 1)
+    comparing-on h f =
+        let room = c.room in
+        let k : at + j + 1 ≡ at + (j + 1) = omega arith in
+        record {
+          within = omega arith;
+          room = room;
+          same = c.same ∙ starts_on w text (at + j) j (omega arith) (omega arith) f ∙ ap (λ m. starts (drop (j + 1) w) (drop m text)) k;
+        }
+
+    pub comparing-off : (eqb size 0 || eqb n size) ≡ true → j < n → (get_or text (at + j) 0 ≡ get_or w j 0 → ⊥) → false ≡ fitting size (drop at text) w
+    comparing-off s h f =
+        let room = c.room in
+        sym (c.same ∙ starts_off w text (at + j) j (omega arith) (omega arith) f) ∙ fit_sized s
+
+    pub comparing-end : (eqb size 0 || eqb n size) ≡ true → n ≤ j → true ≡ fitting size (drop at text) w
+    comparing-end s h = sym (c.same ∙ starts-all w (drop (at + j) text) j (omega arith)) ∙ fit_sized s
 
 -- entries that begin with another byte
 differs-starts : (b : ℕ) (s w : List ℕ) → differs b w ≡ true → starts w (b ∷ s) ≡ false

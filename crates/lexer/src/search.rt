@@ -25,7 +25,19 @@ pub fn fits(text: &[u8], at: usize, rows: &[u8; ROW_BYTES], k: usize, size: usiz
 {
     let row = ROW * k;
     let n = usize::from(rows[row]);
-    sized(n, size) && text[at..].starts_with(&rows[row + 2..row + 2 + n])
+    if !sized(n, size) {
+        return false;
+    }
+    if text.len() - at < n {
+        return false;
+    }
+    // A byte at a time and no slices: most rows differ in the second byte.
+    for j in 0..n {
+        if text[at + j] != rows[row + 2 + j] {
+            return false;
+        }
+    }
+    true
 }
 
 // The first row whose string fits; COUNT if none does, as `search` (specs/Spelling) is the list's length then: no Option. Only rows that begin with the text's byte are looked at.
