@@ -39,8 +39,9 @@ fn byte_step(kind: u32, x: u64, y: u64) -> u64
     }
 }
 
-// As many whole words as `count` bytes have.
-fn boolean_words(op: Op, base: usize, count: usize, rows: &mut [u8])
+// The whole words of `count` bytes. It is not made part of its callers: there the loop's numbers would not stay in registers, and a row of `<->` takes 1.4 times as long.
+#[inline(never)]
+fn each_word(op: Op, base: usize, count: usize, rows: &mut [u8])
     requires { Boolean op × Bound rows.old op base count }
     ensures { rows.new ≡ byte_steps (shape_of op.kind) rows.old op.first op.second base (8 * (count / 8)) }
 {
@@ -58,7 +59,18 @@ fn boolean_words(op: Op, base: usize, count: usize, rows: &mut [u8])
     }
 }
 
-// `count` bytes singly. It differs from `boolean_words` in the reader, the writer and the step: one function would take all three.
+// As many whole words as `count` bytes have; a call is spared where they have none.
+fn boolean_words(op: Op, base: usize, count: usize, rows: &mut [u8])
+    requires { Boolean op × Bound rows.old op base count }
+    ensures { rows.new ≡ byte_steps (shape_of op.kind) rows.old op.first op.second base (8 * (count / 8)) }
+{
+    if count < 8 {
+        return;
+    }
+    each_word(op, base, count, rows);
+}
+
+// `count` bytes singly. It differs from `each_word` in the reader, the writer and the step: one function would take all three.
 fn boolean_bytes(op: Op, base: usize, count: usize, rows: &mut [u8])
     requires { Boolean op × Bound rows.old op base count }
     ensures { rows.new ≡ byte_steps (shape_of op.kind) rows.old op.first op.second base count }
