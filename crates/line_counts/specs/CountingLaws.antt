@@ -26,7 +26,7 @@ is_one part w e = sym (ap digit (eq-eqb part (above field_bits w) (sym e)))
 pub is_none : (part w : ℕ) → (above field_bits w ≡ part → ⊥) → 0 ≡ one part w
 is_none part w d = sym (ap digit (ne_eqb part (above field_bits w) (λ e. d (sym e))))
 
-one-most : (part w : ℕ) → one part w ≤ 1
+pub one-most : (part w : ℕ) → one part w ≤ 1
 one-most part w = go (eqb part (above field_bits w))
   where
     go : (b : Bool) → digit b ≤ 1
