@@ -64,6 +64,8 @@ fn dual(nodes: &[u32], a: usize, b: usize, op: u32, out: &mut [u32], at: usize) 
 }
 
 // a -> b: !a || b
+// A part of its callers, since a call more at each level of `equal` would make the deepest tables' stack two thirds larger.
+#[inline(always)]
 #[cycle(core_core_both_core_one_dual_equal_finally_globally_implies_inner_not_implies_weak)]
 fn implies(nodes: &[u32], a: usize, b: usize, out: &mut [u32], at: usize) -> Option<usize>
     requires { Ready nodes.now (max a b) out.old at }
@@ -75,6 +77,8 @@ fn implies(nodes: &[u32], a: usize, b: usize, out: &mut [u32], at: usize) -> Opt
 }
 
 // !(a -> b)
+// A part of `equal`, for the same reason as `implies`.
+#[inline(always)]
 #[cycle(core_core_both_core_one_dual_equal_finally_globally_implies_inner_not_implies_weak)]
 fn not_implies(nodes: &[u32], a: usize, b: usize, out: &mut [u32], at: usize) -> Option<usize>
     requires { Ready nodes.now (max a b) out.old at }
@@ -85,6 +89,8 @@ fn not_implies(nodes: &[u32], a: usize, b: usize, out: &mut [u32], at: usize) ->
 }
 
 // a <-> b: !(!(a -> b) || !(b -> a))
+// No part of `inner`, since its two copies of `implies` would make the frame of every kind a quarter larger.
+#[inline(never)]
 #[cycle(core_core_both_core_one_dual_equal_finally_globally_implies_inner_not_implies_weak)]
 fn equal(nodes: &[u32], a: usize, b: usize, out: &mut [u32], at: usize) -> Option<usize>
     requires { Ready nodes.now (max a b) out.old at }
@@ -97,6 +103,8 @@ fn equal(nodes: &[u32], a: usize, b: usize, out: &mut [u32], at: usize) -> Optio
 }
 
 // F a: true U a
+// No part of `inner`, so that a level takes a frame half as large.
+#[inline(never)]
 #[cycle(core_core_both_core_one_dual_equal_finally_globally_implies_inner_not_implies_weak)]
 fn finally(nodes: &[u32], i: usize, out: &mut [u32], at: usize) -> Option<usize>
     requires { Ready nodes.now i out.old at }
