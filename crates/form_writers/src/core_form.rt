@@ -103,8 +103,6 @@ fn equal(nodes: &[u32], a: usize, b: usize, out: &mut [u32], at: usize) -> Optio
 }
 
 // F a: true U a
-// No part of `inner`, so that a level takes a frame half as large.
-#[inline(never)]
 #[cycle(core_core_both_core_one_dual_equal_finally_globally_implies_inner_not_implies_weak)]
 fn finally(nodes: &[u32], i: usize, out: &mut [u32], at: usize) -> Option<usize>
     requires { Ready nodes.now i out.old at }
