@@ -77,7 +77,6 @@ returns-then-text-at-2 c =
     comparing-off _ _ _ _ c.args.size long _ loop.invariant (sym sized.ensures ∙ if1.false) loop-test.true
     (λ f. c.if-text-at-2.true (f ∙ sym (c.requires.rows.byte _ _ c.requires.known (subst (λ m. loop.j < m) long loop-test.true))))
 
-
 pub loop-j-preserved : goal.loop-j-preserved
 loop-j-preserved c =
     let from = c.from-n in
