@@ -124,7 +124,9 @@ pub fn fill_row(recording: &[u8], lasso: Lasso, op: Op, base: usize, rows: &mut 
     other(recording, lasso, op, base, rows);
 }
 
-// The bytes of a row copied to a later one.
+// The bytes of a row copied to a later one. It is not made part of its caller: there its places would be counted on for every node, and Boolean rows of 8 positions take
+// 1.3 times as long.
+#[inline(never)]
 pub fn copy_row(rows: &mut [u8], from: usize, base: usize, count: usize)
     requires { (from + count ≤ base) × (base + count ≤ length rows.old) }
     ensures { Copied from base count count rows.old rows.new }

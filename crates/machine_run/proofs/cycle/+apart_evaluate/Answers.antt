@@ -84,36 +84,36 @@ pub evaluate-step-requires : goal.evaluate-step-requires
 evaluate-step-requires t c =
     record { ready_to_write = cycles.ready (cycles.stands c.requires.stands c.loop-n.invariant); going = cycles.going_at _ _ _ c.finished.ensures c.if-finished.false }
 
-pub evaluate-returns-in_err-k : goal.evaluate-returns-in_err-k
-evaluate-returns-in_err-k t c =
-    rw (raised c.from_residual.ensures) (cycles.step-fails c.requires.stands c.loop-n.invariant c.step.ensures c.in_err-k.was)
+pub evaluate-returns-in-Err : goal.evaluate-returns-in-Err
+evaluate-returns-in-Err t c =
+    cycles.step-fails c.requires.stands c.loop-n.invariant c.step.ensures c.in-Err.is
 
-pub evaluate-loop-n-smaller-in-Next : goal.evaluate-loop-n-smaller-in-Next
-evaluate-loop-n-smaller-in-Next t c =
-    cycles.step_less c.requires.stands c.loop-n.invariant c.step.ensures (then-ok c.in_ok-k.was c.in-Next.is)
+pub evaluate-loop-n-smaller-in-Ok-Next : goal.evaluate-loop-n-smaller-in-Ok-Next
+evaluate-loop-n-smaller-in-Ok-Next t c =
+    cycles.step_less c.requires.stands c.loop-n.invariant c.step.ensures (then-ok c.in-Ok-Next.is c.in-Ok-Next.field-0-is)
 
-pub evaluate-loop-n-preserved-in-Next : goal.evaluate-loop-n-preserved-in-Next
-evaluate-loop-n-preserved-in-Next t c =
-    cycles.step-again c.requires.stands c.loop-n.invariant c.step.ensures (then-ok c.in_ok-k.was c.in-Next.is)
+pub evaluate-loop-n-preserved-in-Ok-Next : goal.evaluate-loop-n-preserved-in-Ok-Next
+evaluate-loop-n-preserved-in-Ok-Next t c =
+    cycles.step-again c.requires.stands c.loop-n.invariant c.step.ensures (then-ok c.in-Ok-Next.is c.in-Ok-Next.field-0-is)
 
 pub evaluate-apart-requires : goal.evaluate-apart-requires
 evaluate-apart-requires t c =
-    let short = then-ok c.in_ok-k.was c.in-Short.is in
+    let short = then-ok c.in-Ok-Short.is c.in-Ok-Short.field-0-is in
     let p = cycles.step-short c.requires.stands c.loop-n.invariant c.step.ensures short in
     let g = cycles.step_stays c.requires.stands c.loop-n.invariant c.step.ensures short in
     (cycles.apart_less c.requires.stands c.loop-n.invariant c.decreases p.mode p.short, (cycles.stands c.requires.stands g, p.mode))
 
-pub evaluate-returns-in_err-n-in-Short : goal.evaluate-returns-in_err-n-in-Short
-evaluate-returns-in_err-n-in-Short t c =
-    let short = then-ok c.in_ok-k.was c.in-Short.is in
-    rw (raised c.from_residual-in_err-n-in-Short.ensures)
-    (cycles.step-fails c.requires.stands (cycles.step_stays c.requires.stands c.loop-n.invariant c.step.ensures short) c.apart.ensures (moved_fails c.in_err-n-in-Short.was))
+pub evaluate-returns-in_err-n-in-Ok-Short : goal.evaluate-returns-in_err-n-in-Ok-Short
+evaluate-returns-in_err-n-in-Ok-Short t c =
+    let short = then-ok c.in-Ok-Short.is c.in-Ok-Short.field-0-is in
+    rw (raised c.from_residual.ensures)
+    (cycles.step-fails c.requires.stands (cycles.step_stays c.requires.stands c.loop-n.invariant c.step.ensures short) c.apart.ensures (moved_fails c.in_err-n-in-Ok-Short.was))
 
 pub evaluate-loop-n-smaller : goal.evaluate-loop-n-smaller
 evaluate-loop-n-smaller t c =
-    cycles.back_falls c.requires.stands c.loop-n.invariant c.step.ensures (then-ok c.in_ok-k.was c.in-Short.is) c.apart.ensures c.in_ok-n-in-Short.was
+    cycles.back_falls c.requires.stands c.loop-n.invariant c.step.ensures (then-ok c.in-Ok-Short.is c.in-Ok-Short.field-0-is) c.apart.ensures c.in_ok-n-in-Ok-Short.was
 
 pub evaluate-loop-n-preserved : goal.evaluate-loop-n-preserved
 evaluate-loop-n-preserved t c =
-    cycles.step-again c.requires.stands (cycles.step_stays c.requires.stands c.loop-n.invariant c.step.ensures (then-ok c.in_ok-k.was c.in-Short.is)) c.apart.ensures
-    (moved_comes c.in_ok-n-in-Short.was)
+    cycles.step-again c.requires.stands (cycles.step_stays c.requires.stands c.loop-n.invariant c.step.ensures (then-ok c.in-Ok-Short.is c.in-Ok-Short.field-0-is)) c.apart.ensures
+    (moved_comes c.in_ok-n-in-Ok-Short.was)
