@@ -43,7 +43,8 @@ fn seed_of(kind: u32) -> bool
 }
 
 // A pass backwards over a stretch from the value v after it; the value at its first position. Over a row that an earlier pass has filled it ends at the first span
-// whose first value stays as it was, since none before it can change. It is part of its callers, where a span's size is a constant: rows of 8 positions take 0.7 of the time.
+// whose first value stays as it was, since none before it can change. It is part of `sweep`, where a span's size is a constant: at 8 positions a row takes 0.65 to 0.8 of
+// the time by that.
 #[inline(always)]
 fn sweep_spans(op: Op, base: usize, v: bool, s: Stretch, filled: bool, rows: &mut [u8]) -> bool
     requires placed { Placed rows.old (end_of s) op base }
@@ -86,6 +87,7 @@ fn sweep(n: usize, op: Op, base: usize, seed: bool, filled: bool, rows: &mut [u8
 }
 
 // The row of an operator that goes round the loop: once around, and again from what was found at the loop's start where that is another value.
+// For speed it is not made part of its caller (`plain_row` tells).
 #[inline(never)]
 pub fn around_row(lasso: Lasso, op: Op, base: usize, rows: &mut [u8])
     requires placed { Placed rows.old lasso.n op base × Temporal op }

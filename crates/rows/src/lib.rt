@@ -125,7 +125,7 @@ pub fn fill_row(recording: &[u8], lasso: Lasso, op: Op, base: usize, rows: &mut 
 }
 
 // The bytes of a row copied to a later one. It is not made part of its caller: there its places would be counted on for every node, and Boolean rows of 8 positions take
-// 1.3 times as long.
+// 1.5 times as long.
 #[inline(never)]
 pub fn copy_row(rows: &mut [u8], from: usize, base: usize, count: usize)
     requires { (from + count ≤ base) × (base + count ≤ length rows.old) }
